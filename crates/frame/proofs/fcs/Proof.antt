@@ -1,0 +1,48 @@
+-- `frame::fcs` meets its contract. The loop's invariant: the sum so far is the FCS of the octets passed. Assumes nothing.
+use Prim.Native.Nat.{_≤_, _-_}
+use mathlib.Core.Path.{_≡_, sym, ap, _∙_}
+use native.Mathlib.Omega.{arith}
+use lib.ListN.{length, take}
+use lib.Seq.{take-all}
+use Rattle.frame.specs.Format.{fcs, sum}
+use Rattle.frame.proofs.Sum.{fcs-step}
+use Rattle.frame.proofs.fcs.Statement.{statement}
+use Rattle.frame.proofs.fcs.Tie as tie
+
+abbrev Inv-loop : tie.InvT-loop
+Inv-loop body sum₀ i₀ sum i = (i ≤ length body) × (sum ≡ fcs (take i body))
+
+abbrev μ-loop : tie.MeasureT-loop
+μ-loop body sum₀ i₀ sum i = length body - i
+
+loop-holds : tie.Need-loop-holds Inv-loop μ-loop
+unfolding fcs sum
+loop-holds c = omega arith
+
+shared-slice-read-wrapping-add-u8 : tie.Need-shared-slice-read-wrapping-add-u8 Inv-loop μ-loop
+shared-slice-read-wrapping-add-u8 c = omega arith
+
+wrapping-add-u8-requires : tie.Need-wrapping-add-u8-requires Inv-loop μ-loop
+wrapping-add-u8-requires c κs = tt
+
+add-i : tie.Need-add-i Inv-loop μ-loop
+add-i c = omega arith
+
+loop-less : tie.Need-loop-less Inv-loop μ-loop
+loop-less c = omega arith
+
+loop-again : tie.Need-loop-again Inv-loop μ-loop
+loop-again c =
+    let l = c .before .before .before .loop in
+    let b = c .before .before .before .before .before .args .body .now in
+    (omega arith, rw (fcs-step b (l .i) (omega arith)) (omega (arith, l .inv .1, c .wrapping-add-u8 .ensures)))
+
+returns : tie.Need-returns Inv-loop μ-loop
+returns c =
+    let b = c .before .before .before .args .body .now in
+    c .before .loop .inv .1 ∙ ap fcs (take-all (c .before .loop .i) b (omega arith))
+
+pub fcs-spec : {M : Type 1} → statement M
+fcs-spec =
+    tie.close
+    (tie.spec Inv-loop μ-loop loop-holds shared-slice-read-wrapping-add-u8 wrapping-add-u8-requires add-i loop-less loop-again returns)

@@ -1,0 +1,29 @@
+-- `frame::listed` meets its contract: the octet is that of the control read, and that control is lawful.
+-- Assumes nothing.
+use mathlib.Core.Path.{refl}
+use Rattle.choice.proofs.Rules.{if-same, unless-same}
+use Rattle.frame.specs.Control.{listed}
+use borrow.Author.Needs.{needs}
+use Rattle.frame.proofs.listed.Statement.{statement}
+use Rattle.frame.proofs.listed.Tie as tie
+
+control-of-requires : tie.Need-control-of-requires
+control-of-requires c κs = search needs
+
+fc-requires : tie.Need-fc-requires
+fc-requires c κs = search needs
+
+lawful-requires : tie.Need-lawful-requires
+lawful-requires c κs = search needs
+
+returns : tie.Need-returns
+unfolding listed
+returns c = if-same _ (cc) (cc)
+
+returns-2 : tie.Need-returns-2
+unfolding listed
+returns-2 c = unless-same _ (λ e. c .if1 .left (cc)) refl
+
+pub listed-spec : {M : Type 1} → statement M
+listed-spec =
+    tie.close (tie.spec control-of-requires fc-requires lawful-requires returns returns-2)
