@@ -103,7 +103,7 @@ pub enum Written {
     Count(usize),
 }
 
-pub fn service_number(s: Service) -> u8
+fn service_number(s: Service) -> u8
     ensures { λ r. ⌜ r ≡ serviceNumber s ⌝ }
     ensures { λ r. ⌜ r < 16 ⌝ }
 {
@@ -120,7 +120,7 @@ pub fn service_number(s: Service) -> u8
     }
 }
 
-pub fn service_of(n: u8) -> Service
+fn service_of(n: u8) -> Service
     ensures { λ r. ⌜ r ≡ serviceOf n ⌝ }
 {
     if n == 3 {
@@ -150,7 +150,7 @@ pub fn service_of(n: u8) -> Service
     Service::Lsap
 }
 
-pub fn code_number(c: Code) -> u8
+fn code_number(c: Code) -> u8
     ensures { λ r. ⌜ r ≡ codeNumber c ⌝ }
     ensures { λ r. ⌜ r < 16 ⌝ }
 {
@@ -167,7 +167,7 @@ pub fn code_number(c: Code) -> u8
     }
 }
 
-pub fn code_of(n: u8) -> Code
+fn code_of(n: u8) -> Code
     ensures { λ r. ⌜ r ≡ codeOf n ⌝ }
 {
     if n == 0 {
@@ -197,7 +197,7 @@ pub fn code_of(n: u8) -> Code
     Code::Rdh
 }
 
-pub fn type_number(k: Kind) -> u8
+fn type_number(k: Kind) -> u8
     ensures { λ r. ⌜ r ≡ typeNumber k ⌝ }
     ensures { λ r. ⌜ r < 4 ⌝ }
 {
@@ -209,7 +209,7 @@ pub fn type_number(k: Kind) -> u8
     }
 }
 
-pub fn type_of(n: u8) -> Kind
+fn type_of(n: u8) -> Kind
     ensures { λ r. ⌜ r ≡ typeOf n ⌝ }
 {
     if n == 0 {
@@ -268,7 +268,7 @@ pub fn control_of(n: u8) -> Control
 }
 
 // SDA and SRD are counted by FCB and FCV, and nothing else.
-pub fn counted(s: Service) -> bool
+fn counted(s: Service) -> bool
     ensures { λ r. ⌜ r ≡ Control·counted s ⌝ }
 {
     match s {
@@ -321,7 +321,7 @@ pub fn listed(n: u8) -> bool
 }
 
 // Whether an FC octet is an SDN, low or high.
-pub fn sdn(n: u8) -> bool
+fn sdn(n: u8) -> bool
     ensures { λ r. ⌜ r ≡ Control·sdn n ⌝ }
 {
     if n == 68 {

@@ -1,0 +1,47 @@
+-- `body::body_answer` meets its contract: the refusal, or the fields and where the data lie.
+-- Assumes nothing.
+use mathlib.Core.Path.{_∙_}
+use native.Mathlib.Omega.{arith}
+use Rattle.choice.proofs.Rules.{if-same, unless-same}
+use Rattle.body.proofs.Within.{data-within}
+use Rattle.frame.specs.Reading.{bodyAnswer, answer}
+use borrow.Author.Needs.{needs}
+use Rattle.body.proofs.body_answer.Statement.{statement}
+use Rattle.body.proofs.body_answer.Tie as tie
+
+body-refusal-requires : tie.Need-body-refusal-requires
+body-refusal-requires c κs = search needs
+
+returns : tie.Need-returns
+unfolding bodyAnswer answer
+returns c = unless-same _ (λ q. c .if1 .taken (c .before .body-refusal .ensures ∙ q)) (cc)
+
+data-at-requires : tie.Need-data-at-requires
+data-at-requires c κs = search needs
+
+head-of-requires : tie.Need-head-of-requires
+head-of-requires c κs = search needs
+
+add-t8 : tie.Need-add-t8
+add-t8 c = omega arith
+
+sub-t10 : tie.Need-sub-t10
+sub-t10 c =
+    let b = c .before .before .before .before .before .args .b .now in
+    omega (arith, data-within b (omega arith) (cc))
+
+returns-2 : tie.Need-returns-2
+unfolding bodyAnswer answer
+returns-2 c = if-same _ (cc) (cc)
+
+pub body-answer-spec : {M : Type 1} → statement M
+body-answer-spec =
+    tie.close
+    (tie.spec
+    body-refusal-requires
+    returns
+    data-at-requires
+    head-of-requires
+    add-t8
+    sub-t10
+    returns-2)

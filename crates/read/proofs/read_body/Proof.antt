@@ -1,0 +1,72 @@
+-- `read::read_body` meets its contract: each return is one case of the chain.
+-- Assumes nothing.
+use mathlib.Core.Path.{refl}
+use native.Mathlib.Omega.{arith}
+use lib.ListN.{length-take, length-drop}
+use Rattle.choice.proofs.Rules.{if-same, unless-same, picks}
+use Rattle.frame.specs.Reading.{readBody}
+use borrow.Author.Needs.{needs}
+use Rattle.read.proofs.read_body.Statement.{statement}
+use Rattle.read.proofs.read_body.Tie as tie
+
+add-end : tie.Need-add-end
+add-end c = search needs
+
+add-if1 : tie.Need-add-if1
+add-if1 c = search needs
+
+returns : tie.Need-returns
+unfolding readBody
+returns c = search picks depth 20
+
+add-if2 : tie.Need-add-if2
+add-if2 c = search needs
+
+shared-slice-read-if2 : tie.Need-shared-slice-read-if2
+shared-slice-read-if2 c = search needs
+
+returns-2 : tie.Need-returns-2
+unfolding readBody
+returns-2 c = search picks depth 20
+
+part-requires : tie.Need-part-requires
+part-requires c κs = search needs
+
+shared-slice-read-if3 : tie.Need-shared-slice-read-if3
+shared-slice-read-if3 c = search needs
+
+fcs-requires : tie.Need-fcs-requires
+fcs-requires c κs = search needs
+
+returns-3 : tie.Need-returns-3
+unfolding readBody
+returns-3 c =
+    if-same _ (c .before .before .before .before .before .before .if1 .left)
+    (if-same _ (c .before .before .before .before .if2 .left) (unless-same _ (λ q. c .if3 .taken (cc)) refl))
+
+body-answer-requires : tie.Need-body-answer-requires
+body-answer-requires c κs =
+    (rw (c .before .before .before .part .ensures) (simp (length-take, length-drop) (omega arith)), omega arith)
+
+returns-4 : tie.Need-returns-4
+unfolding readBody
+returns-4 c =
+    if-same _ (c .before .before .before .before .before .before .before .if1 .left)
+    (if-same _ (c .before .before .before .before .before .if2 .left) (if-same _ (cc) (cc)))
+
+pub read-body-spec : {M : Type 1} → statement M
+read-body-spec =
+    tie.close
+    (tie.spec
+    add-end
+    add-if1
+    returns
+    add-if2
+    shared-slice-read-if2
+    returns-2
+    part-requires
+    shared-slice-read-if3
+    fcs-requires
+    returns-3
+    body-answer-requires
+    returns-4)
