@@ -22,12 +22,17 @@ const SC: u8 = 0xE5;
 
 const ED: u8 = 0x16;
 
-// The n octets from a place.
-fn part(s: &[u8], start: usize, n: usize) -> &[u8]
-    requires { ⌜ (start ≤ 4) × (n ≤ 255) × (start + n ≤ length (now s)) ⌝ }
-    ensures { λ r. ⌜ now r ≡ Reading·part (now (s .entry)) start n ⌝ }
+// The octets from a place on, count of them or as many as there are, as a part of the caller's string.
+pub fn part(s: &[u8], start: usize, count: usize) -> &[u8]
+    ensures { λ r. ⌜ now r ≡ Reading·part (now (s .entry)) start count ⌝ }
 {
-    &s[start..start + n]
+    if s.len() < start {
+        return &s[..0];
+    }
+    if s.len() - start < count {
+        return &s[start..];
+    }
+    &s[start..start + count]
 }
 
 // A frame whose body is the n octets from a place.
