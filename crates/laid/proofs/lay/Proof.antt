@@ -1,0 +1,40 @@
+-- `laid::lay` meets its contract: what the copy left of the part from the place on is the piece laid there.
+-- Assumes nothing.
+use borrow.Author.Needs.{needs}
+use mathlib.Core.Path.{refl}
+use native.Mathlib.Omega.{arith}
+use Rattle.laid.proofs.Laws.{laid-copied}
+use Rattle.laid.proofs.lay.Statement.{statement}
+use Rattle.laid.proofs.lay.Tie as tie
+
+sub-copy : tie.Need-sub-copy
+sub-copy c = search needs
+
+part-copy-start : tie.Need-part-copy-start
+part-copy-start c = search needs
+
+part-copy-end : tie.Need-part-copy-end
+part-copy-end c = search needs
+
+copy-requires : tie.Need-copy-requires
+copy-requires c κs = search needs
+
+add-result : tie.Need-add-result
+add-result c = search needs
+
+same-length : tie.Need-same-length
+same-length c = search needs
+
+returns : tie.Need-returns
+returns c =
+    let a = c .before .before .before .before .before .before .args in
+    record {
+      place = refl;
+      left = laid-copied (a .out .now) (a .at) (a .piece .now) _ (omega arith) (c .before .before .copy .ensures .1);
+      near = omega arith;
+    }
+
+pub lay-spec : {M : Type 1} → statement M
+lay-spec =
+    tie.close
+    (tie.spec sub-copy part-copy-start part-copy-end copy-requires add-result same-length returns)

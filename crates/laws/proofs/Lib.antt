@@ -1,0 +1,7 @@
+pub mod Cases
+pub mod Control
+pub mod Body
+pub mod Framed
+pub mod Accepted
+pub mod Flips
+pub mod Theorems

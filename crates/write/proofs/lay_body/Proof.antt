@@ -1,0 +1,71 @@
+-- `write::lay_body` meets its contract: three stores, and the unit laid behind them.
+-- Assumes nothing.
+use Prim.Native.Nat.{_+_, _≤_}
+use lib.ListN.{length, length-set}
+use native.Mathlib.Omega.{arith}
+use Rattle.frame.specs.Format.{unit, body}
+use Rattle.write.proofs.Frame.{laid-three}
+use Rattle.write.proofs.Lengths.{length-body}
+use borrow.Author.Needs.{needs}
+use Rattle.write.proofs.lay_body.Statement.{statement}
+use Rattle.write.proofs.lay_body.Tie as tie
+
+-- the three octets and the unit fit
+room : (s : tie.Start) → s .args .at + 3 + length (unit (s .args .h) (s .args .«data» .now)) ≤ length (s .args .out .now)
+room s = omega (arith, length-body (s .args .h) (s .args .«data» .now))
+
+addressed-requires : tie.Need-addressed-requires
+addressed-requires c κs = search needs
+
+slice-write-out : tie.Need-slice-write-out
+slice-write-out c = omega (arith, room (c .before .before .before))
+
+addressed-requires-2 : tie.Need-addressed-requires-2
+addressed-requires-2 c κs = search needs
+
+add-out : tie.Need-add-out
+add-out c = search needs
+
+slice-write-out-2 : tie.Need-slice-write-out-2
+slice-write-out-2 c = simp length-set (omega (arith, room (c .before .before .before .before)))
+
+fc-requires : tie.Need-fc-requires
+fc-requires c κs = search needs
+
+add-out-2 : tie.Need-add-out-2
+add-out-2 c = search needs
+
+slice-write-out-3 : tie.Need-slice-write-out-3
+slice-write-out-3 c = simp length-set (omega (arith, room (c .before .before .before .before .before)))
+
+add-lay-unit : tie.Need-add-lay-unit
+add-lay-unit c = search needs
+
+lay-unit-requires : tie.Need-lay-unit-requires
+lay-unit-requires c κs = simp length-set (omega (arith, room (c .before .before .before .before .before .before)))
+
+same-length : tie.Need-same-length
+same-length c = simp length-set at (c .before .before .lay-unit .kept .1 .1 .0)
+
+returns : tie.Need-returns
+unfolding body
+returns c =
+    let s = c .before .before .before .before .before .before .before .before .before in
+    cc (laid-three (s .args .out .now) (s .args .at) _ _ _ _ (omega (arith, room s)))
+
+pub lay-body-spec : {M : Type 1} → statement M
+lay-body-spec =
+    tie.close
+    (tie.spec
+    addressed-requires
+    slice-write-out
+    addressed-requires-2
+    add-out
+    slice-write-out-2
+    fc-requires
+    add-out-2
+    slice-write-out-3
+    add-lay-unit
+    lay-unit-requires
+    same-length
+    returns)

@@ -1,0 +1,249 @@
+// The frame writer: a frame's fields and data as octets at the start of a lent output, or the first refusal of
+// 8..13 and the output as it was. The definitions are the frame crate's. Assumes nothing.
+ghost use mathlib.Core.Path.{_≡_};
+ghost use Prim.Native.Nat.{_+_, _≤_};
+ghost use mathlib.Core.Bool.{true, false};
+ghost use mathlib.Core.List.{[]};
+ghost use lib.ListN.{length, take, drop};
+ghost use Rattle.choice.specs.Choice.{pick, less};
+ghost use Rattle.frame.specs.Format.{unit, body, closing, sd1, sd2, unwritableFrame, written, left};
+ghost use Rattle.frame.specs.Format.{extension as Format·extension, addressed as Format·addressed, outside as Format·outside};
+ghost use Rattle.laid.specs.Laid.{laid};
+use frame::Access;
+use frame::Address;
+use frame::Fields;
+use frame::Head;
+use frame::Written;
+
+const SD1: u8 = 0x10;
+
+const SD2: u8 = 0x68;
+
+const SD4: u8 = 0xDC;
+
+const SC: u8 = 0xE5;
+
+const ED: u8 = 0x16;
+
+// How many extension octets an access point has.
+fn extensions(a: Access) -> usize
+    ensures { λ r. ⌜ r ≡ length (Format·extension a) ⌝ }
+    ensures { λ r. ⌜ r ≤ 1 ⌝ }
+{
+    match a {
+        Access::None => 0,
+        Access::At(_) => 1,
+    }
+}
+
+// How many octets the unit has.
+fn units(h: Head, data: &[u8]) -> usize
+    ensures { λ r. ⌜ r ≡ length (unit h (now («data» .entry))) ⌝ }
+{
+    let to = h.to;
+    let from = h.from;
+    extensions(to) + extensions(from) + data.len()
+}
+
+fn over(n: u8, most: u8) -> bool
+    ensures { λ r. ⌜ r ≡ pick (less most n) true false ⌝ }
+{
+    if most < n {
+        return true;
+    }
+    false
+}
+
+// Whether an access point is over the greatest number of its side.
+fn outside(a: Access, most: u8) -> bool
+    ensures { λ r. ⌜ r ≡ Format·outside a most ⌝ }
+{
+    match a {
+        Access::None => false,
+        Access::At(p) => over(p.0, most),
+    }
+}
+
+// The refusal of a frame's fields with a unit of that many octets, or 0.
+fn refusal(h: Head, units: usize) -> u8
+    ensures { λ r. ⌜ r ≡ unwritableFrame h units ⌝ }
+{
+    let destination = h.destination.0;
+    let to = h.to;
+    let source = h.source.0;
+    let from = h.from;
+    let c = h.control;
+    let control = frame::fc(c);
+    if 126 < source {
+        return 8;
+    }
+    if 127 < destination {
+        return 8;
+    }
+    if !frame::listed(control) {
+        return 9;
+    }
+    if outside(to, 63) {
+        return 10;
+    }
+    if outside(from, 62) {
+        return 10;
+    }
+    if frame::misdirected(destination, control) {
+        return 11;
+    }
+    if 246 < units {
+        return 12;
+    }
+    0
+}
+
+// DA or SA of an address.
+fn addressed(n: u8, a: Access) -> u8
+    requires { ⌜ n ≤ 127 ⌝ }
+    ensures { λ r. ⌜ r ≡ Format·addressed n a ⌝ }
+{
+    match a {
+        Access::None => n,
+        Access::At(_) => n + 128,
+    }
+}
+
+// Lays an access point's extension octet, if it has one, and gives the place behind it.
+fn lay_extension(a: Access, out: &mut [u8], at: usize) -> usize
+    requires { ⌜ at + length (Format·extension a) ≤ length (now out) ⌝ }
+    ensures { λ r. ⌜ r ≡ at + length (Format·extension a) ⌝ }
+    ensures { λ _. ⌜ now (out .exit) ≡ laid (now (out .entry)) at (Format·extension a) ⌝ }
+{
+    match a {
+        Access::None => at,
+        Access::At(p) => {
+            out[at] = p.0;
+            at + 1
+        }
+    }
+}
+
+// Lays the unit: the extension octets, then the data.
+fn lay_unit(h: Head, data: &[u8], out: &mut [u8], at: usize)
+    requires { ⌜ at + length (unit h (now «data»)) ≤ length (now out) ⌝ }
+    ensures { λ _. ⌜ now (out .exit) ≡ laid (now (out .entry)) at (unit h (now («data» .entry))) ⌝ }
+{
+    let to = h.to;
+    let from = h.from;
+    let second = lay_extension(to, out, at);
+    let third = lay_extension(from, out, second);
+    bytes::copy(data, &mut out[third..]);
+}
+
+// Lays DA SA FC unit.
+fn lay_body(h: Head, data: &[u8], out: &mut [u8], at: usize)
+    requires { ⌜ (h .destination .0 ≤ 127) × (h .source .0 ≤ 126) ⌝ }
+    requires { ⌜ at + length (body h (now «data»)) ≤ length (now out) ⌝ }
+    ensures { λ _. ⌜ now (out .exit) ≡ laid (now (out .entry)) at (body h (now («data» .entry))) ⌝ }
+{
+    let destination = h.destination.0;
+    let to = h.to;
+    let source = h.source.0;
+    let from = h.from;
+    let control = h.control;
+    out[at] = addressed(destination, to);
+    out[at + 1] = addressed(source, from);
+    out[at + 2] = frame::fc(control);
+    lay_unit(h, data, out, at + 3);
+}
+
+// Lays FCS 16 behind the n octets of a body.
+fn close(out: &mut [u8], at: usize, n: usize)
+    requires { ⌜ at + n + 2 ≤ length (now out) ⌝ }
+    ensures { λ _. ⌜ now (out .exit) ≡ laid (now (out .entry)) (at + n) (closing (take n (drop at (now (out .entry))))) ⌝ }
+{
+    let end = at + n;
+    let sum = frame::fcs(&out[at..end]);
+    out[end] = sum;
+    out[end + 1] = ED;
+}
+
+// 10 DA SA FC FCS 16
+fn lay_sd1(h: Head, data: &[u8], out: &mut [u8])
+    requires { ⌜ (h .destination .0 ≤ 127) × (h .source .0 ≤ 126) ⌝ }
+    requires { ⌜ length (body h (now «data»)) ≡ 3 ⌝ }
+    requires { ⌜ 6 ≤ length (now out) ⌝ }
+    ensures { λ _. ⌜ now (out .exit) ≡ laid (now (out .entry)) 0 (sd1 (body h (now («data» .entry)))) ⌝ }
+{
+    out[0] = SD1;
+    lay_body(h, data, out, 1);
+    close(out, 1, 3);
+}
+
+// 68 LE LE 68 DA SA FC unit FCS 16, of a body of n octets
+fn lay_sd2(h: Head, data: &[u8], out: &mut [u8], n: u8)
+    requires { ⌜ (h .destination .0 ≤ 127) × (h .source .0 ≤ 126) ⌝ }
+    requires { ⌜ length (body h (now «data»)) ≡ n ⌝ }
+    requires { ⌜ n + 6 ≤ length (now out) ⌝ }
+    ensures { λ _. ⌜ now (out .exit) ≡ laid (now (out .entry)) 0 (sd2 (body h (now («data» .entry)))) ⌝ }
+{
+    out[0] = SD2;
+    out[1] = n;
+    out[2] = n;
+    out[3] = SD2;
+    lay_body(h, data, out, 4);
+    close(out, 4, n as usize);
+}
+
+// A frame with a control octet: SD1 for an empty unit, else SD2.
+pub fn write_frame(h: Head, data: &[u8], out: &mut [u8]) -> Written
+    ensures { λ r. ⌜ r ≡ written (Fields.Frame h) (now («data» .entry)) (now (out .entry)) ⌝ }
+    ensures { λ _. ⌜ now (out .exit) ≡ left (Fields.Frame h) (now («data» .entry)) (now (out .entry)) ⌝ }
+{
+    let n = units(h, data);
+    let refused = refusal(h, n);
+    if refused != 0 {
+        return Written::Refused(refused);
+    }
+    if n == 0 {
+        if out.len() < 6 {
+            return Written::Refused(13);
+        }
+        lay_sd1(h, data, out);
+        return Written::Count(6);
+    }
+    let count = n + 9;
+    if out.len() < count {
+        return Written::Refused(13);
+    }
+    lay_sd2(h, data, out, (n + 3) as u8);
+    Written::Count(count)
+}
+
+// A token.
+pub fn write_token(destination: Address, source: Address, out: &mut [u8]) -> Written
+    ensures { λ r. ⌜ r ≡ written (Fields.Token destination source) [] (now (out .entry)) ⌝ }
+    ensures { λ _. ⌜ now (out .exit) ≡ left (Fields.Token destination source) [] (now (out .entry)) ⌝ }
+{
+    if 126 < destination.0 {
+        return Written::Refused(8);
+    }
+    if 126 < source.0 {
+        return Written::Refused(8);
+    }
+    if out.len() < 3 {
+        return Written::Refused(13);
+    }
+    out[0] = SD4;
+    out[1] = destination.0;
+    out[2] = source.0;
+    Written::Count(3)
+}
+
+// A short acknowledgement.
+pub fn write_short(out: &mut [u8]) -> Written
+    ensures { λ r. ⌜ r ≡ written Fields.Short [] (now (out .entry)) ⌝ }
+    ensures { λ _. ⌜ now (out .exit) ≡ left Fields.Short [] (now (out .entry)) ⌝ }
+{
+    if out.len() < 1 {
+        return Written::Refused(13);
+    }
+    out[0] = SC;
+    Written::Count(1)
+}
