@@ -1,0 +1,117 @@
+-- `capture::bodies` meets its contract: the loop keeps `Walked`, and each way out lays all that was to come.
+-- Assumes nothing.
+use Prim.Native.Nat.{_-_}
+use mathlib.Core.Path.{_∙_}
+use Rattle.capture.specs.Listing.{bodiesAt}
+use native.Mathlib.Omega.{arith}
+use Rattle.capture.proofs.Walk.{Walked, walked-none, walked-room, walked-length, walked-more, walked-cut, walked-last}
+use Rattle.capture.proofs.bodies.Statement.{statement}
+use Rattle.capture.proofs.bodies.Tie as tie
+
+abbrev Inv-loop : tie.InvT-loop
+Inv-loop s count out₀ at₀ i₀ w₀ out at i w = Walked s count out₀ out at i w
+
+abbrev μ-loop : tie.MeasureT-loop
+μ-loop s count out₀ at₀ i₀ w₀ out at i w = count - i
+
+mul-at : tie.Need-mul-at Inv-loop μ-loop
+mul-at c = omega arith
+
+add-at : tie.Need-add-at Inv-loop μ-loop
+add-at c = omega arith
+
+loop-holds : tie.Need-loop-holds Inv-loop μ-loop
+unfolding bodiesAt
+loop-holds c = walked-none (c .before .before .args .s .now) (c .before .before .args .count) (c .before .before .args .out .now) (c .before .before .pre .1)
+
+length-of-requires : tie.Need-length-of-requires Inv-loop μ-loop
+unfolding bodiesAt
+length-of-requires c κs = omega arith
+
+sub-if1 : tie.Need-sub-if1 Inv-loop μ-loop
+sub-if1 c = omega arith
+
+cut-requires : tie.Need-cut-requires Inv-loop μ-loop
+cut-requires c κs =
+    let a = c .before .before .before .before .before .before .before .args in
+    let l = c .before .before .before .before .loop in
+    walked-room (a .s .now) (a .count) (a .out .now) (l .out) (l .at) (l .i) (l .w) (c .before .before .before .before .before .before .before .pre .2) (l .inv) 10 (omega arith)
+
+same-length : tie.Need-same-length Inv-loop μ-loop
+same-length c =
+    let a = c .before .before .before .before .before .before .before .before .before .before .args in
+    let l = c .before .before .before .before .before .before .before .loop in
+    c .before .before .cut .kept .0 ∙ walked-length (a .s .now) (a .count) (a .out .now) (l .out) (l .at) (l .i) (l .w) (c .before .before .before .before .before .before .before .before .before .before .pre .2) (l .inv)
+
+returns : tie.Need-returns Inv-loop μ-loop
+returns c =
+    let a = c .before .before .before .before .before .before .before .before .before .before .args in
+    let l = c .before .before .before .before .before .before .before .loop in
+    walked-cut (a .s .now) (a .count) (a .out .now) (l .out) (l .at) (l .i) (l .w) (c .before .before .before .before .before .before .before .before .before .before .pre .2) (l .inv) _ _ (c .before .before .before .before .before .before .loop-test .taken) (rw (← c .before .before .before .before .before .length-of .ensures .0) (c .before .before .before .before .if1 .taken)) (c .before .before .cut .ensures)
+
+part-requires : tie.Need-part-requires Inv-loop μ-loop
+part-requires c κs = tt
+
+line-requires : tie.Need-line-requires Inv-loop μ-loop
+line-requires c κs =
+    let a = c .before .before .before .before .before .before .before .before .args in
+    let l = c .before .before .before .before .before .loop in
+    walked-room (a .s .now) (a .count) (a .out .now) (l .out) (l .at) (l .i) (l .w) (c .before .before .before .before .before .before .before .before .pre .2) (l .inv) 34 (omega arith)
+
+add-at-2 : tie.Need-add-at-2 Inv-loop μ-loop
+add-at-2 c = omega arith
+
+add-i : tie.Need-add-i Inv-loop μ-loop
+add-i c = omega arith
+
+loop-less : tie.Need-loop-less Inv-loop μ-loop
+loop-less c = omega arith
+
+loop-again : tie.Need-loop-again Inv-loop μ-loop
+loop-again c =
+    let a = c .before .before .before .before .before .before .before .before .before .before .before .args in
+    let l = c .before .before .before .before .before .before .before .before .loop in
+    let n = c .before .before .before .before .before .before .length-of .ensures .0 in
+    rw n (walked-more (a .s .now) (a .count) (a .out .now) (l .out) (l .at) (l .i) (l .w) (c .before .before .before .before .before .before .before .before .before .before .before .pre .2) (l .inv) _ _ (c .before .before .before .before .before .before .before .loop-test .taken) (rw (← n) (c .before .before .before .before .before .if1 .left)) (rw (← n, ← c .before .before .before .before .part .ensures) (c .before .before .line .ensures)))
+
+last-requires : tie.Need-last-requires Inv-loop μ-loop
+last-requires c κs =
+    let a = c .before .before .before .before .before .args in
+    let l = c .before .before .loop in
+    walked-room (a .s .now) (a .count) (a .out .now) (l .out) (l .at) (l .i) (l .w) (c .before .before .before .before .before .pre .2) (l .inv) 10 (omega arith)
+
+same-length-2 : tie.Need-same-length-2 Inv-loop μ-loop
+same-length-2 c =
+    let a = c .before .before .before .before .before .before .before .before .args in
+    let l = c .before .before .before .before .before .loop in
+    c .before .before .last .kept .1 .1 .0 ∙ walked-length (a .s .now) (a .count) (a .out .now) (l .out) (l .at) (l .i) (l .w) (c .before .before .before .before .before .before .before .before .pre .2) (l .inv)
+
+returns-2 : tie.Need-returns-2 Inv-loop μ-loop
+returns-2 c =
+    let a = c .before .before .before .before .before .before .before .before .args in
+    let l = c .before .before .before .before .before .loop in
+    walked-last (a .s .now) (a .count) (a .out .now) (l .out) (l .at) (l .i) (l .w) (c .before .before .before .before .before .before .before .before .pre .2) (l .inv) _ _ (c .before .before .before .before .loop-test .left) (c .before .before .last .ensures)
+
+pub bodies-spec : {M : Type 1} → statement M
+bodies-spec =
+    tie.close
+    (tie.spec
+    Inv-loop
+    μ-loop
+    mul-at
+    add-at
+    loop-holds
+    length-of-requires
+    sub-if1
+    cut-requires
+    same-length
+    returns
+    part-requires
+    line-requires
+    add-at-2
+    add-i
+    loop-less
+    loop-again
+    last-requires
+    same-length-2
+    returns-2)
