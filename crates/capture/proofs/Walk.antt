@@ -90,7 +90,10 @@ module _ (s : List ℕ) (count : ℕ) (out₀ out : List ℕ) (at i w : ℕ) (ro
 pub listed-laid : (s out e : List ℕ) (b r : ℕ) (m : List ℕ) → ROOM ≤ length out → b ≤ ROOM → e ≡ listing s → Lays out 0 e b r m → (r ≡ listed s out) × ((m ≡ left s out) × (r ≤ length m))
 unfolding listed left
 listed-laid s out e b r m h g q x =
-    let k : length m ≡ length out = ap length (x .left) ∙ length-laid out 0 e (omega (arith, x .near)) in
-    (unless-less _ h (x .place ∙ zero-add (length e) ∙ ap length q),
-    (unless-less _ h (x .left ∙ laid-start out e ∙ ap (λ (u : List ℕ). u ++ drop (length u) out) q),
-    omega (arith, x .place, x .near)))
+    let k : length m ≡ length out = ap length (x .left) ∙ length-laid out 0 e (omega (arith, x .near)) in (
+      unless-less _ h (x .place ∙ zero-add (length e) ∙ ap length q),
+      (
+        unless-less _ h (x .left ∙ laid-start out e ∙ ap (λ (u : List ℕ). u ++ drop (length u) out) q),
+        omega (arith, x .place, x .near),
+      ),
+    )

@@ -9,21 +9,9 @@ use borrow.Author.Needs.{needs}
 use Rattle.body.proofs.body_answer.Statement.{statement}
 use Rattle.body.proofs.body_answer.Tie as tie
 
-body-refusal-requires : tie.Need-body-refusal-requires
-body-refusal-requires c κs = search needs
-
 returns : tie.Need-returns
 unfolding bodyAnswer answer
 returns c = unless-same _ (λ q. c .if1 .taken (c .before .body-refusal .ensures ∙ q)) (cc)
-
-data-at-requires : tie.Need-data-at-requires
-data-at-requires c κs = search needs
-
-head-of-requires : tie.Need-head-of-requires
-head-of-requires c κs = search needs
-
-add-t8 : tie.Need-add-t8
-add-t8 c = omega arith
 
 sub-t10 : tie.Need-sub-t10
 sub-t10 c =
@@ -38,10 +26,10 @@ pub body-answer-spec : {M : Type 1} → statement M
 body-answer-spec =
     tie.close
     (tie.spec
-    body-refusal-requires
+    (λ c κs. search needs)
     returns
-    data-at-requires
-    head-of-requires
-    add-t8
+    (λ c κs. search needs)
+    (λ c κs. search needs)
+    (λ c. omega arith)
     sub-t10
     returns-2)

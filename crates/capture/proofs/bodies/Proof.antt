@@ -14,12 +14,6 @@ Inv-loop s count out₀ at₀ i₀ w₀ out at i w = Walked s count out₀ out a
 abbrev μ-loop : tie.MeasureT-loop
 μ-loop s count out₀ at₀ i₀ w₀ out at i w = count - i
 
-mul-at : tie.Need-mul-at Inv-loop μ-loop
-mul-at c = omega arith
-
-add-at : tie.Need-add-at Inv-loop μ-loop
-add-at c = omega arith
-
 loop-holds : tie.Need-loop-holds Inv-loop μ-loop
 unfolding bodiesAt
 loop-holds c = walked-none (c .before .before .args .s .now) (c .before .before .args .count) (c .before .before .args .out .now) (c .before .before .pre .1)
@@ -27,9 +21,6 @@ loop-holds c = walked-none (c .before .before .args .s .now) (c .before .before 
 length-of-requires : tie.Need-length-of-requires Inv-loop μ-loop
 unfolding bodiesAt
 length-of-requires c κs = omega arith
-
-sub-if1 : tie.Need-sub-if1 Inv-loop μ-loop
-sub-if1 c = omega arith
 
 cut-requires : tie.Need-cut-requires Inv-loop μ-loop
 cut-requires c κs =
@@ -49,23 +40,11 @@ returns c =
     let l = c .before .before .before .before .before .before .before .loop in
     walked-cut (a .s .now) (a .count) (a .out .now) (l .out) (l .at) (l .i) (l .w) (c .before .before .before .before .before .before .before .before .before .before .pre .2) (l .inv) _ _ (c .before .before .before .before .before .before .loop-test .taken) (rw (← c .before .before .before .before .before .length-of .ensures .0) (c .before .before .before .before .if1 .taken)) (c .before .before .cut .ensures)
 
-part-requires : tie.Need-part-requires Inv-loop μ-loop
-part-requires c κs = tt
-
 line-requires : tie.Need-line-requires Inv-loop μ-loop
 line-requires c κs =
     let a = c .before .before .before .before .before .before .before .before .args in
     let l = c .before .before .before .before .before .loop in
     walked-room (a .s .now) (a .count) (a .out .now) (l .out) (l .at) (l .i) (l .w) (c .before .before .before .before .before .before .before .before .pre .2) (l .inv) 34 (omega arith)
-
-add-at-2 : tie.Need-add-at-2 Inv-loop μ-loop
-add-at-2 c = omega arith
-
-add-i : tie.Need-add-i Inv-loop μ-loop
-add-i c = omega arith
-
-loop-less : tie.Need-loop-less Inv-loop μ-loop
-loop-less c = omega arith
 
 loop-again : tie.Need-loop-again Inv-loop μ-loop
 loop-again c =
@@ -98,19 +77,19 @@ bodies-spec =
     (tie.spec
     Inv-loop
     μ-loop
-    mul-at
-    add-at
+    (λ c. omega arith)
+    (λ c. omega arith)
     loop-holds
     length-of-requires
-    sub-if1
+    (λ c. omega arith)
     cut-requires
     same-length
     returns
-    part-requires
+    (λ c κs. tt)
     line-requires
-    add-at-2
-    add-i
-    loop-less
+    (λ c. omega arith)
+    (λ c. omega arith)
+    (λ c. omega arith)
     loop-again
     last-requires
     same-length-2

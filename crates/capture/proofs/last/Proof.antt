@@ -9,27 +9,9 @@ use borrow.Author.Needs.{needs}
 use Rattle.capture.proofs.last.Statement.{statement}
 use Rattle.capture.proofs.last.Tie as tie
 
-slice-aggregate-lay : tie.Need-slice-aggregate-lay
-slice-aggregate-lay c = search needs
-
-lay-requires : tie.Need-lay-requires
-lay-requires c κs = search needs
-
-same-length : tie.Need-same-length
-same-length c = search needs
-
 returns : tie.Need-returns
 unfolding last
 returns c = rw (less-true (c .before .before .before .before .before .if1 .taken), pick-true endLong end refl) (lays-within 10 (omega arith) (c .before .before .lay .ensures))
-
-slice-aggregate-lay-2 : tie.Need-slice-aggregate-lay-2
-slice-aggregate-lay-2 c = search needs
-
-lay-requires-2 : tie.Need-lay-requires-2
-lay-requires-2 c κs = search needs
-
-same-length-2 : tie.Need-same-length-2
-same-length-2 c = search needs
 
 returns-2 : tie.Need-returns-2
 unfolding last
@@ -39,11 +21,11 @@ pub last-spec : {M : Type 1} → statement M
 last-spec =
     tie.close
     (tie.spec
-    slice-aggregate-lay
-    lay-requires
-    same-length
+    (λ c. search needs)
+    (λ c κs. search needs)
+    (λ c. search needs)
     returns
-    slice-aggregate-lay-2
-    lay-requires-2
-    same-length-2
+    (λ c. search needs)
+    (λ c κs. search needs)
+    (λ c. search needs)
     returns-2)

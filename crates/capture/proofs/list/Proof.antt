@@ -13,12 +13,6 @@ returns : tie.Need-returns
 unfolding listed left
 returns c = (if-less _ (c .if1 .taken) refl, (if-less _ (c .if1 .taken) refl, omega arith))
 
-cut-requires : tie.Need-cut-requires
-cut-requires c κs = search needs
-
-same-length : tie.Need-same-length
-same-length c = search needs
-
 returns-2 : tie.Need-returns-2
 unfolding listing
 returns-2 c =
@@ -26,18 +20,6 @@ returns-2 c =
     listed-laid (a .s .now) (a .out .now) endShort 10 _ _ (c .before .before .before .before .before .if1 .left) (omega arith)
     (if-less _ (c .before .before .before .before .if2 .taken) refl)
     (c .before .before .cut .ensures)
-
-count-of-requires : tie.Need-count-of-requires
-count-of-requires c κs = search needs
-
-slice-aggregate-lay : tie.Need-slice-aggregate-lay
-slice-aggregate-lay c = search needs
-
-lay-requires : tie.Need-lay-requires
-lay-requires c κs = search needs
-
-same-length-2 : tie.Need-same-length-2
-same-length-2 c = search needs
 
 returns-3 : tie.Need-returns-3
 unfolding listing
@@ -47,18 +29,6 @@ returns-3 c =
     listed-laid (a .s .now) (a .out .now) endCount 10 _ _ (c .before .before .before .before .before .before .before .before .if1 .left) (omega arith)
     (unless-less _ (c .before .before .before .before .before .before .before .if2 .left) (if-less _ (rw (← n) (c .before .before .before .before .before .if3 .taken)) refl))
     (c .before .before .lay .ensures)
-
-mul-if4 : tie.Need-mul-if4
-mul-if4 c = search needs
-
-add-if4 : tie.Need-add-if4
-add-if4 c = search needs
-
-cut-requires-2 : tie.Need-cut-requires-2
-cut-requires-2 c κs = search needs
-
-same-length-3 : tie.Need-same-length-3
-same-length-3 c = search needs
 
 returns-4 : tie.Need-returns-4
 unfolding listing bodiesAt
@@ -72,9 +42,6 @@ returns-4 c =
 bodies-requires : tie.Need-bodies-requires
 unfolding bodiesAt
 bodies-requires c κs = omega arith
-
-same-length-4 : tie.Need-same-length-4
-same-length-4 c = search needs
 
 returns-5 : tie.Need-returns-5
 unfolding listing bodiesAt
@@ -90,19 +57,19 @@ list-spec =
     tie.close
     (tie.spec
     returns
-    cut-requires
-    same-length
+    (λ c κs. search needs)
+    (λ c. search needs)
     returns-2
-    count-of-requires
-    slice-aggregate-lay
-    lay-requires
-    same-length-2
+    (λ c κs. search needs)
+    (λ c. search needs)
+    (λ c κs. search needs)
+    (λ c. search needs)
     returns-3
-    mul-if4
-    add-if4
-    cut-requires-2
-    same-length-3
+    (λ c. search needs)
+    (λ c. search needs)
+    (λ c κs. search needs)
+    (λ c. search needs)
     returns-4
     bodies-requires
-    same-length-4
+    (λ c. search needs)
     returns-5)

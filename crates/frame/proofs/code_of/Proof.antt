@@ -5,52 +5,17 @@ use Rattle.frame.specs.Control.{codeOf}
 use Rattle.frame.proofs.code_of.Statement.{statement}
 use Rattle.frame.proofs.code_of.Tie as tie
 
-returns : tie.Need-returns
-unfolding codeOf
-returns c = search picks depth 20
-
-returns-2 : tie.Need-returns-2
-unfolding codeOf
-returns-2 c = search picks depth 20
-
-returns-3 : tie.Need-returns-3
-unfolding codeOf
-returns-3 c = search picks depth 20
-
-returns-4 : tie.Need-returns-4
-unfolding codeOf
-returns-4 c = search picks depth 20
-
-returns-5 : tie.Need-returns-5
-unfolding codeOf
-returns-5 c = search picks depth 20
-
-returns-6 : tie.Need-returns-6
-unfolding codeOf
-returns-6 c = search picks depth 20
-
-returns-7 : tie.Need-returns-7
-unfolding codeOf
-returns-7 c = search picks depth 20
-
-returns-8 : tie.Need-returns-8
-unfolding codeOf
-returns-8 c = search picks depth 20
-
-returns-9 : tie.Need-returns-9
-unfolding codeOf
-returns-9 c = search picks depth 20
-
 pub code-of-spec : {M : Type 1} → statement M
+unfolding codeOf
 code-of-spec =
     tie.close
     (tie.spec
-    returns
-    returns-2
-    returns-3
-    returns-4
-    returns-5
-    returns-6
-    returns-7
-    returns-8
-    returns-9)
+    (λ c. search picks depth 20)
+    (λ c. search picks depth 20)
+    (λ c. search picks depth 20)
+    (λ c. search picks depth 20)
+    (λ c. search picks depth 20)
+    (λ c. search picks depth 20)
+    (λ c. search picks depth 20)
+    (λ c. search picks depth 20)
+    (λ c. search picks depth 20))

@@ -6,24 +6,9 @@ use borrow.Author.Needs.{needs}
 use Rattle.frame.proofs.control_of.Statement.{statement}
 use Rattle.frame.proofs.control_of.Tie as tie
 
-service-of-requires : tie.Need-service-of-requires
-service-of-requires c κs = search needs
-
-one-requires : tie.Need-one-requires
-one-requires c κs = search needs
-
-one-requires-2 : tie.Need-one-requires-2
-one-requires-2 c κs = search needs
-
 returns : tie.Need-returns
 unfolding controlOf
 returns c = if-same _ (c .before .before .before .if1 .taken) (cc)
-
-type-of-requires : tie.Need-type-of-requires
-type-of-requires c κs = search needs
-
-code-of-requires : tie.Need-code-of-requires
-code-of-requires c κs = search needs
 
 returns-2 : tie.Need-returns-2
 unfolding controlOf
@@ -33,10 +18,10 @@ pub control-of-spec : {M : Type 1} → statement M
 control-of-spec =
     tie.close
     (tie.spec
-    service-of-requires
-    one-requires
-    one-requires-2
+    (λ c κs. search needs)
+    (λ c κs. search needs)
+    (λ c κs. search needs)
     returns
-    type-of-requires
-    code-of-requires
+    (λ c κs. search needs)
+    (λ c κs. search needs)
     returns-2)

@@ -5,15 +5,6 @@ use borrow.Author.Needs.{needs}
 use Rattle.frame.proofs.lawful.Statement.{statement}
 use Rattle.frame.proofs.lawful.Tie as tie
 
-enum-known-c : tie.Need-enum-known-c
-enum-known-c c = search needs
-
-lawful-request-requires : tie.Need-lawful-request-requires
-lawful-request-requires c κs = search needs
-
-enum-told : tie.Need-enum-told
-enum-told c = search needs
-
 returns : tie.Need-returns
 unfolding lawful
 returns c = rw (c .before .before .c .given .1) (c .lawful-request .ensures)
@@ -23,4 +14,4 @@ unfolding lawful
 returns-2 c = rw (c .enum-told .given .1)
 
 pub lawful-spec : {M : Type 1} → statement M
-lawful-spec = tie.close (tie.spec enum-known-c lawful-request-requires enum-told returns returns-2)
+lawful-spec = tie.close (tie.spec (λ c. search needs) (λ c κs. search needs) (λ c. search needs) returns returns-2)

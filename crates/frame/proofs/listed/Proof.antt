@@ -7,15 +7,6 @@ use borrow.Author.Needs.{needs}
 use Rattle.frame.proofs.listed.Statement.{statement}
 use Rattle.frame.proofs.listed.Tie as tie
 
-control-of-requires : tie.Need-control-of-requires
-control-of-requires c κs = search needs
-
-fc-requires : tie.Need-fc-requires
-fc-requires c κs = search needs
-
-lawful-requires : tie.Need-lawful-requires
-lawful-requires c κs = search needs
-
 returns : tie.Need-returns
 unfolding listed
 returns c = if-same _ (cc) (cc)
@@ -26,4 +17,4 @@ returns-2 c = unless-same _ (λ e. c .if1 .left (cc)) refl
 
 pub listed-spec : {M : Type 1} → statement M
 listed-spec =
-    tie.close (tie.spec control-of-requires fc-requires lawful-requires returns returns-2)
+    tie.close (tie.spec (λ c κs. search needs) (λ c κs. search needs) (λ c κs. search needs) returns returns-2)

@@ -9,28 +9,17 @@ use Rattle.laid.proofs.Laws.{lays-room, lays-then}
 use Rattle.line.proofs.addresses.Statement.{statement}
 use Rattle.line.proofs.addresses.Tie as tie
 
-number-requires : tie.Need-number-requires
-number-requires c κs = search needs
-
-slice-aggregate-lay : tie.Need-slice-aggregate-lay
-slice-aggregate-lay c = search needs
-
-lay-requires : tie.Need-lay-requires
-lay-requires c κs = search needs
-
-number-requires-2 : tie.Need-number-requires-2
-number-requires-2 c κs = search needs
-
-same-length : tie.Need-same-length
-same-length c = search needs
-
 returns : tie.Need-returns
 unfolding addresses
 returns c =
-    let x1 = c .before .before .before .before .before .before .before .before .before .before .before .number .ensures in
-    let x2 = c .before .before .before .before .before .before .lay .ensures in
-    let x3 = c .before .before .number2 .ensures in
-    let h1 : c .before .before .before .before .before .before .before .before .before .before .before .before .before .before .args .at + (4 + 5) ≤ length (c .before .before .before .before .before .before .before .before .before .before .before .before .before .before .args .out .now) = omega (arith, c .before .before .before .before .before .before .before .before .before .before .before .before .before .before .pre) in
+    let at4 = c .before .before in
+    let at3 = at4 .before .before .before .before in
+    let at2 = at3 .before .before .before .before .before in
+    let start = at2 .before .before .before in
+    let x1 = at2 .number .ensures in
+    let x2 = at3 .lay .ensures in
+    let x3 = at4 .number2 .ensures in
+    let h1 : start .args .at + (4 + 5) ≤ length (start .args .out .now) = omega (arith, start .pre) in
     let h2 = lays-room 5 h1 x1 in
     lays-then h1 x1 (lays-then h2 x2 x3)
 
@@ -38,9 +27,9 @@ pub addresses-spec : {M : Type 1} → statement M
 addresses-spec =
     tie.close
     (tie.spec
-    number-requires
-    slice-aggregate-lay
-    lay-requires
-    number-requires-2
-    same-length
+    (λ c κs. search needs)
+    (λ c. search needs)
+    (λ c κs. search needs)
+    (λ c κs. search needs)
+    (λ c. search needs)
     returns)

@@ -9,22 +9,16 @@ use Rattle.laid.proofs.Laws.{lays-then}
 use Rattle.line.proofs.line.Statement.{statement}
 use Rattle.line.proofs.line.Tie as tie
 
-number-requires : tie.Need-number-requires
-number-requires c κs = search needs
-
-answered-requires : tie.Need-answered-requires
-answered-requires c κs = search needs
-
-same-length : tie.Need-same-length
-same-length c = search needs
-
 returns : tie.Need-returns
 unfolding line
 returns c =
-    let x1 = c .before .before .before .before .before .before .number .ensures in
-    let x2 = c .before .before .answered .ensures in
-    let h1 : c .before .before .before .before .before .before .before .before .before .before .args .at + (4 + 30) ≤ length (c .before .before .before .before .before .before .before .before .before .before .args .out .now) = omega (arith, c .before .before .before .before .before .before .before .before .before .before .pre) in
+    let at3 = c .before .before in
+    let at2 = at3 .before .before .before .before in
+    let start = at2 .before .before .before .before in
+    let x1 = at2 .number .ensures in
+    let x2 = at3 .answered .ensures in
+    let h1 : start .args .at + (4 + 30) ≤ length (start .args .out .now) = omega (arith, start .pre) in
     lays-then h1 x1 x2
 
 pub line-spec : {M : Type 1} → statement M
-line-spec = tie.close (tie.spec number-requires answered-requires same-length returns)
+line-spec = tie.close (tie.spec (λ c κs. search needs) (λ c κs. search needs) (λ c. search needs) returns)

@@ -9,34 +9,13 @@ use borrow.Author.Needs.{needs}
 use Rattle.read.proofs.read_body.Statement.{statement}
 use Rattle.read.proofs.read_body.Tie as tie
 
-add-end : tie.Need-add-end
-add-end c = search needs
-
-add-if1 : tie.Need-add-if1
-add-if1 c = search needs
-
 returns : tie.Need-returns
 unfolding readBody
 returns c = search picks depth 20
 
-add-if2 : tie.Need-add-if2
-add-if2 c = search needs
-
-shared-slice-read-if2 : tie.Need-shared-slice-read-if2
-shared-slice-read-if2 c = search needs
-
 returns-2 : tie.Need-returns-2
 unfolding readBody
 returns-2 c = search picks depth 20
-
-part-requires : tie.Need-part-requires
-part-requires c κs = search needs
-
-shared-slice-read-if3 : tie.Need-shared-slice-read-if3
-shared-slice-read-if3 c = search needs
-
-fcs-requires : tie.Need-fcs-requires
-fcs-requires c κs = search needs
 
 returns-3 : tie.Need-returns-3
 unfolding readBody
@@ -58,15 +37,15 @@ pub read-body-spec : {M : Type 1} → statement M
 read-body-spec =
     tie.close
     (tie.spec
-    add-end
-    add-if1
+    (λ c. search needs)
+    (λ c. search needs)
     returns
-    add-if2
-    shared-slice-read-if2
+    (λ c. search needs)
+    (λ c. search needs)
     returns-2
-    part-requires
-    shared-slice-read-if3
-    fcs-requires
+    (λ c κs. search needs)
+    (λ c. search needs)
+    (λ c κs. search needs)
     returns-3
     body-answer-requires
     returns-4)

@@ -13,24 +13,9 @@ returns : tie.Need-returns
 unfolding readSd2
 returns c = search (picks, asked) depth 20
 
-shared-slice-read-le : tie.Need-shared-slice-read-le
-shared-slice-read-le c = search needs
-
-shared-slice-read-mismeasured : tie.Need-shared-slice-read-mismeasured
-shared-slice-read-mismeasured c = search needs
-
-shared-slice-read-mismeasured-2 : tie.Need-shared-slice-read-mismeasured-2
-shared-slice-read-mismeasured-2 c = search needs
-
-mismeasured-requires : tie.Need-mismeasured-requires
-mismeasured-requires c κs = search needs
-
 returns-2 : tie.Need-returns-2
 unfolding readSd2
 returns-2 c = search (picks, asked) depth 20
-
-wide-requires : tie.Need-wide-requires
-wide-requires c κs = search needs
 
 read-body-requires : tie.Need-read-body-requires
 read-body-requires c κs =
@@ -49,11 +34,11 @@ read-sd2-spec =
     tie.close
     (tie.spec
     returns
-    shared-slice-read-le
-    shared-slice-read-mismeasured
-    shared-slice-read-mismeasured-2
-    mismeasured-requires
+    (λ c. search needs)
+    (λ c. search needs)
+    (λ c. search needs)
+    (λ c κs. search needs)
     returns-2
-    wide-requires
+    (λ c κs. search needs)
     read-body-requires
     returns-3)

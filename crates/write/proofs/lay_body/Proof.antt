@@ -14,32 +14,14 @@ use Rattle.write.proofs.lay_body.Tie as tie
 room : (s : tie.Start) → s .args .at + 3 + length (unit (s .args .h) (s .args .«data» .now)) ≤ length (s .args .out .now)
 room s = omega (arith, length-body (s .args .h) (s .args .«data» .now))
 
-addressed-requires : tie.Need-addressed-requires
-addressed-requires c κs = search needs
-
 slice-write-out : tie.Need-slice-write-out
 slice-write-out c = omega (arith, room (c .before .before .before))
-
-addressed-requires-2 : tie.Need-addressed-requires-2
-addressed-requires-2 c κs = search needs
-
-add-out : tie.Need-add-out
-add-out c = search needs
 
 slice-write-out-2 : tie.Need-slice-write-out-2
 slice-write-out-2 c = simp length-set (omega (arith, room (c .before .before .before .before)))
 
-fc-requires : tie.Need-fc-requires
-fc-requires c κs = search needs
-
-add-out-2 : tie.Need-add-out-2
-add-out-2 c = search needs
-
 slice-write-out-3 : tie.Need-slice-write-out-3
 slice-write-out-3 c = simp length-set (omega (arith, room (c .before .before .before .before .before)))
-
-add-lay-unit : tie.Need-add-lay-unit
-add-lay-unit c = search needs
 
 lay-unit-requires : tie.Need-lay-unit-requires
 lay-unit-requires c κs = simp length-set (omega (arith, room (c .before .before .before .before .before .before)))
@@ -57,15 +39,15 @@ pub lay-body-spec : {M : Type 1} → statement M
 lay-body-spec =
     tie.close
     (tie.spec
-    addressed-requires
+    (λ c κs. search needs)
     slice-write-out
-    addressed-requires-2
-    add-out
+    (λ c κs. search needs)
+    (λ c. search needs)
     slice-write-out-2
-    fc-requires
-    add-out-2
+    (λ c κs. search needs)
+    (λ c. search needs)
     slice-write-out-3
-    add-lay-unit
+    (λ c. search needs)
     lay-unit-requires
     same-length
     returns)

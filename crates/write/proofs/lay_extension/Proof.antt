@@ -9,25 +9,13 @@ use borrow.Author.Needs.{needs}
 use Rattle.write.proofs.lay_extension.Statement.{statement}
 use Rattle.write.proofs.lay_extension.Tie as tie
 
-enum-told : tie.Need-enum-told
-enum-told c = search needs
-
-enum-known-a : tie.Need-enum-known-a
-enum-known-a c = search needs
-
 slice-write-out : tie.Need-slice-write-out
 unfolding extension
 slice-write-out c = omega (arith, rw (c .before .a .given .1) at (c .before .before .before .pre))
 
-add-result : tie.Need-add-result
-add-result c = search needs
-
 returns : tie.Need-returns
 unfolding extension
 returns c = rw (c .enum-told .given .1) (omega arith, sym (laid-nil _ _))
-
-same-length : tie.Need-same-length
-same-length c = search needs
 
 returns-2 : tie.Need-returns-2
 unfolding extension
@@ -39,4 +27,4 @@ returns-2 c =
 pub lay-extension-spec : {M : Type 1} → statement M
 lay-extension-spec =
     tie.close
-    (tie.spec enum-told enum-known-a slice-write-out add-result returns same-length returns-2)
+    (tie.spec (λ c. search needs) (λ c. search needs) slice-write-out (λ c. search needs) returns (λ c. search needs) returns-2)

@@ -9,18 +9,6 @@ use Rattle.write.proofs.Frame.{laid-frame}
 use Rattle.write.proofs.lay_sd2.Statement.{statement}
 use Rattle.write.proofs.lay_sd2.Tie as tie
 
-slice-write-out : tie.Need-slice-write-out
-slice-write-out c = omega arith
-
-slice-write-out-2 : tie.Need-slice-write-out-2
-slice-write-out-2 c = simp length-set (omega arith)
-
-slice-write-out-3 : tie.Need-slice-write-out-3
-slice-write-out-3 c = simp length-set (omega arith)
-
-slice-write-out-4 : tie.Need-slice-write-out-4
-slice-write-out-4 c = simp length-set (omega arith)
-
 lay-body-requires : tie.Need-lay-body-requires
 lay-body-requires c κs = (c .before .before .before .pre .0, simp length-set (omega arith))
 
@@ -46,10 +34,10 @@ pub lay-sd2-spec : {M : Type 1} → statement M
 lay-sd2-spec =
     tie.close
     (tie.spec
-    slice-write-out
-    slice-write-out-2
-    slice-write-out-3
-    slice-write-out-4
+    (λ c. omega arith)
+    (λ c. simp length-set (omega arith))
+    (λ c. simp length-set (omega arith))
+    (λ c. simp length-set (omega arith))
     lay-body-requires
     close-requires
     same-length

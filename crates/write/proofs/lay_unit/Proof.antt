@@ -30,14 +30,8 @@ sub-copy c = omega (arith, room (c .before .before .before .before .before .befo
 part-copy-start : tie.Need-part-copy-start
 part-copy-start c = omega (arith, room (c .before .before .before .before .before .before .before .before .before .before))
 
-part-copy-end : tie.Need-part-copy-end
-part-copy-end c = search needs
-
 copy-requires : tie.Need-copy-requires
 copy-requires c κs = simp (length-take, length-drop) (omega (arith, room (c .before .before .before .before .before .before .before .before .before .before .before)))
-
-same-length : tie.Need-same-length
-same-length c = search needs
 
 returns : tie.Need-returns
 unfolding unit
@@ -62,7 +56,7 @@ lay-unit-spec =
     lay-extension-requires-2
     sub-copy
     part-copy-start
-    part-copy-end
+    (λ c. search needs)
     copy-requires
-    same-length
+    (λ c. search needs)
     returns)

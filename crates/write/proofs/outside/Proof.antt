@@ -5,15 +5,6 @@ use borrow.Author.Needs.{needs}
 use Rattle.write.proofs.outside.Statement.{statement}
 use Rattle.write.proofs.outside.Tie as tie
 
-enum-told : tie.Need-enum-told
-enum-told c = search needs
-
-enum-known-a : tie.Need-enum-known-a
-enum-known-a c = search needs
-
-over-requires : tie.Need-over-requires
-over-requires c κs = search needs
-
 returns : tie.Need-returns
 unfolding outside
 returns c = rw (c .enum-told .given .1)
@@ -23,4 +14,4 @@ unfolding outside
 returns-2 c = rw (c .before .before .a .given .1) (c .over .ensures)
 
 pub outside-spec : {M : Type 1} → statement M
-outside-spec = tie.close (tie.spec enum-told enum-known-a over-requires returns returns-2)
+outside-spec = tie.close (tie.spec (λ c. search needs) (λ c. search needs) (λ c κs. search needs) returns returns-2)

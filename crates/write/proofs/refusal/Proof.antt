@@ -19,9 +19,6 @@ misdirected-of _ e h = rw (← h) e
 
 ruleset of-fc = (listed-of, misdirected-of)
 
-fc-requires : tie.Need-fc-requires
-fc-requires c κs = search needs
-
 returns : tie.Need-returns
 unfolding unwritableFrame
 returns c = search (picks, asked, of-fc) depth 20
@@ -30,29 +27,17 @@ returns-2 : tie.Need-returns-2
 unfolding unwritableFrame
 returns-2 c = search (picks, asked, of-fc) depth 20
 
-listed-requires : tie.Need-listed-requires
-listed-requires c κs = search needs
-
 returns-3 : tie.Need-returns-3
 unfolding unwritableFrame
 returns-3 c = search (picks, asked, of-fc) depth 20
-
-outside-requires : tie.Need-outside-requires
-outside-requires c κs = search needs
 
 returns-4 : tie.Need-returns-4
 unfolding unwritableFrame
 returns-4 c = search (picks, asked, of-fc) depth 20
 
-outside-requires-2 : tie.Need-outside-requires-2
-outside-requires-2 c κs = search needs
-
 returns-5 : tie.Need-returns-5
 unfolding unwritableFrame
 returns-5 c = search (picks, asked, of-fc) depth 20
-
-misdirected-requires : tie.Need-misdirected-requires
-misdirected-requires c κs = search needs
 
 returns-6 : tie.Need-returns-6
 unfolding unwritableFrame
@@ -70,16 +55,16 @@ pub refusal-spec : {M : Type 1} → statement M
 refusal-spec =
     tie.close
     (tie.spec
-    fc-requires
+    (λ c κs. search needs)
     returns
     returns-2
-    listed-requires
+    (λ c κs. search needs)
     returns-3
-    outside-requires
+    (λ c κs. search needs)
     returns-4
-    outside-requires-2
+    (λ c κs. search needs)
     returns-5
-    misdirected-requires
+    (λ c κs. search needs)
     returns-6
     returns-7
     returns-8)

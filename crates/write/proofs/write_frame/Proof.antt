@@ -37,12 +37,6 @@ filled p =
     let r = p .before .before in
     writes-sd2 (head r) (content r) (r .before .units .ensures) (r .refusal .ensures) (p .before .if1 .left) (p .if2 .left)
 
-units-requires : tie.Need-units-requires
-units-requires c κs = search needs
-
-refusal-requires : tie.Need-refusal-requires
-refusal-requires c κs = search needs
-
 returns : tie.Need-returns
 returns c =
     let r = c .before in
@@ -57,9 +51,6 @@ lay-sd1-requires c κs =
     let w = fields p in
     ((w .destination, w .source), (omega (arith, length-body (head (p .before)) (content (p .before))), omega arith))
 
-same-length : tie.Need-same-length
-same-length c = search needs
-
 returns-3 : tie.Need-returns-3
 returns-3 c =
     wrote (empty (c .before .before .before .before .before)) _ (omega arith) (c .before .before .lay-sd1 .ensures)
@@ -70,9 +61,6 @@ add-count c = omega (arith, fields (c .before) .units)
 returns-4 : tie.Need-returns-4
 returns-4 c = short (filled (c .before)) _ (omega arith)
 
-add-lay-sd2 : tie.Need-add-lay-sd2
-add-lay-sd2 c = search needs
-
 cast-lay-sd2 : tie.Need-cast-lay-sd2
 cast-lay-sd2 c = omega (arith, fields (c .before .before .before) .units)
 
@@ -82,9 +70,6 @@ lay-sd2-requires c κs =
     let w = fields p in
     ((w .destination, w .source), (omega (arith, length-body (head (p .before)) (content (p .before))), omega arith))
 
-same-length-2 : tie.Need-same-length-2
-same-length-2 c = search needs
-
 returns-5 : tie.Need-returns-5
 returns-5 c =
     wrote (filled (c .before .before .before .before .before)) _ (omega arith) (c .before .before .lay-sd2 .ensures)
@@ -93,17 +78,17 @@ pub write-frame-spec : {M : Type 1} → statement M
 write-frame-spec =
     tie.close
     (tie.spec
-    units-requires
-    refusal-requires
+    (λ c κs. search needs)
+    (λ c κs. search needs)
     returns
     returns-2
     lay-sd1-requires
-    same-length
+    (λ c. search needs)
     returns-3
     add-count
     returns-4
-    add-lay-sd2
+    (λ c. search needs)
     cast-lay-sd2
     lay-sd2-requires
-    same-length-2
+    (λ c. search needs)
     returns-5)

@@ -18,14 +18,8 @@ writes = record { writable = refl; octets = refl; count = refl }
 returns : tie.Need-returns
 returns c = short writes _ (omega arith)
 
-slice-write-out : tie.Need-slice-write-out
-slice-write-out c = search needs
-
-same-length : tie.Need-same-length
-same-length c = search needs
-
 returns-2 : tie.Need-returns-2
 returns-2 c = wrote writes _ (omega arith) (laid-sets (c .before .args .out .now) 0 (SC ∷ []) (omega arith))
 
 pub write-short-spec : {M : Type 1} → statement M
-write-short-spec = tie.close (tie.spec returns slice-write-out same-length returns-2)
+write-short-spec = tie.close (tie.spec returns (λ c. search needs) (λ c. search needs) returns-2)

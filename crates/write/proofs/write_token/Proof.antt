@@ -36,18 +36,6 @@ returns-3 c =
     let a = c .before .before .before .before .before .args in
     short (writes (a .destination) (a .source) (omega arith) (omega arith)) _ (omega arith)
 
-slice-write-out : tie.Need-slice-write-out
-slice-write-out c = search needs
-
-slice-write-out-2 : tie.Need-slice-write-out-2
-slice-write-out-2 c = simp length-set (omega arith)
-
-slice-write-out-3 : tie.Need-slice-write-out-3
-slice-write-out-3 c = search needs
-
-same-length : tie.Need-same-length
-same-length c = search needs
-
 returns-4 : tie.Need-returns-4
 returns-4 c =
     let a = c .before .before .before .before .before .args in
@@ -61,8 +49,8 @@ write-token-spec =
     returns
     returns-2
     returns-3
-    slice-write-out
-    slice-write-out-2
-    slice-write-out-3
-    same-length
+    (λ c. search needs)
+    (λ c. simp length-set (omega arith))
+    (λ c. search needs)
+    (λ c. search needs)
     returns-4)
