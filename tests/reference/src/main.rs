@@ -1,0 +1,89 @@
+//! The independent reader, writer and lister that the library is held against, and the scripts for it.
+
+mod answer;
+mod capture;
+mod draft;
+mod frame;
+mod lister;
+mod random;
+mod reach;
+mod sample;
+mod script;
+mod text;
+
+use std::io::{self, BufRead, Read, Write};
+use std::process::ExitCode;
+
+const USAGE: &str = "\
+reference frames SEED COUNT   a script for reader and writer, with COUNT seeded strings to read
+reference lists SEED COUNT    a script for the lister, with COUNT seeded captures of each ending
+reference answer              a script on standard input: its answers
+reference reach               lines of call, tab, answer on standard input: what was reached
+reference list                a capture on standard input: its listing
+reference capture SEED KIND   a seeded capture: end, short, long, count or full
+reference sample NAME         a sample capture: document, run, damaged or cut
+";
+
+fn main() -> ExitCode {
+    match run() {
+        Ok(true) => ExitCode::SUCCESS,
+        Ok(false) => ExitCode::from(1),
+        Err(message) => {
+            eprintln!("reference: {}", message.trim_end());
+            ExitCode::from(2)
+        }
+    }
+}
+
+/// Runs the subcommand; false if `reach` found something missing.
+fn run() -> Result<bool, String> {
+    let arguments: Vec<String> = std::env::args().skip(1).collect();
+    let words: Vec<&str> = arguments.iter().map(String::as_str).collect();
+    let number = |word: &str| word.parse::<u64>().map_err(|_| USAGE.to_string());
+    let output = match words[..] {
+        ["frames", seed, count] => lines(script::frames(number(seed)?, number(count)? as usize)),
+        ["lists", seed, count] => lines(script::lists(number(seed)?, number(count)? as usize)),
+        ["answer"] => lines(answers()?),
+        ["reach"] => return reached(),
+        ["list"] => lister::list(&standard_input()?).into_bytes(),
+        ["capture", seed, kind] => capture::of_kind(kind, number(seed)?).ok_or(USAGE)?,
+        ["sample", name] => sample::of_name(name).ok_or(USAGE)?,
+        _ => return Err(USAGE.to_string()),
+    };
+    put(&output)?;
+    Ok(true)
+}
+
+fn standard_input() -> Result<Vec<u8>, String> {
+    let mut octets = Vec::new();
+    io::stdin().read_to_end(&mut octets).map_err(|error| error.to_string())?;
+    Ok(octets)
+}
+
+fn put(octets: &[u8]) -> Result<(), String> {
+    io::stdout().write_all(octets).map_err(|error| error.to_string())
+}
+
+fn lines(lines: Vec<String>) -> Vec<u8> {
+    let mut text = lines.join("\n").into_bytes();
+    text.push(b'\n');
+    text
+}
+
+fn answers() -> Result<Vec<String>, String> {
+    let calls = io::stdin().lock().lines();
+    calls.map(|call| answer::answer(&call.map_err(|error| error.to_string())?)).collect()
+}
+
+fn reached() -> Result<bool, String> {
+    let mut reach = reach::Reach::default();
+    for line in io::stdin().lock().lines() {
+        reach.add(&line.map_err(|error| error.to_string())?)?;
+    }
+    let (report, all) = reach.report();
+    put(report.as_bytes())?;
+    for call in &reach.accepted_flips {
+        eprintln!("a flipped frame was accepted: {call}");
+    }
+    Ok(all && reach.accepted_flips.is_empty())
+}
