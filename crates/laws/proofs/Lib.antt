@@ -4,4 +4,5 @@ pub mod Body
 pub mod Framed
 pub mod Accepted
 pub mod Flips
+pub mod Table
 pub mod Theorems

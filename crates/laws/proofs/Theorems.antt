@@ -14,10 +14,17 @@ use Rattle.frame.specs.declared.Answer.the-variants.{Read}
 use Rattle.frame.specs.Format.{octets, unit, body, sd2, unwritable, unwritableToken, SD2, SD3}
 use Rattle.frame.specs.Reading.{read, plain, refusal, shown, octet}
 use Rattle.laws.specs.Flip.{Octets, carried, flip, Summed}
+use Rattle.laws.specs.Table.{table}
 use Rattle.laws.proofs.Body.{writable, head-body, data-body, sound-body}
 use Rattle.laws.proofs.Framed.{read-token, read-short, reads-framed}
 use Rattle.laws.proofs.Accepted.{accepted, accepted-writable, accepted-carried, accepted-written, accepted-SD3}
 use Rattle.laws.proofs.Flips.{accepted-flip}
+use Rattle.laws.proofs.Table.{table-read}
+
+-- "Frame refusals, first match in this order": the reader's refusal of any string is the first row of the table that
+-- holds, and 0 where none does
+pub refusal-table : (s : List ℕ) → refusal (read s) ≡ table s
+refusal-table s = table-read s
 
 -- (a) "Reading a written frame gives its fields", and its data
 pub read-written : (f : Fields) (x : List ℕ) → unwritable f x ≡ 0

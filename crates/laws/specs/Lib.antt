@@ -1,1 +1,2 @@
 pub mod Flip
+pub mod Table
