@@ -2,20 +2,18 @@
  * counted from outside. IMPLEMENTATION is ours or plain. OPERATION is read or write, with SIZE the octet
  * count of the frame (6 is SD1, from 11 on SD2 with two access points), or list of the capture on standard
  * input, with SIZE its octet count. */
-#include "calls.h"
+#include "plain.h"
 #include <stdio.h>
 #include <stdlib.h>
 #include <string.h>
-
-DECLARE_CALLS(cihlomet)
-DECLARE_CALLS(plain)
 
 enum { MOST_CAPTURE = 2 + 4096 * (5 + 255), MOST_FRAME = 255, SD1_COUNT = 6, SD2_WITHOUT_DATA = 11 };
 
 struct implementation {
     const char *name;
-    struct frame (*read)(const uint8_t *, size_t);
-    struct written (*write)(uint8_t, uint8_t, uint8_t, uint8_t, uint8_t, const uint8_t *, size_t, uint8_t *, size_t);
+    struct cihlomet_frame (*read)(const uint8_t *, size_t);
+    struct cihlomet_written (*write)(uint8_t, uint8_t, uint8_t, uint8_t, uint8_t, const uint8_t *, size_t, uint8_t *,
+                                     size_t);
     size_t (*list)(const uint8_t *, size_t, uint8_t *, size_t);
 };
 
@@ -24,12 +22,12 @@ static const struct implementation implementations[] = {
     {"plain", plain_read, plain_write, plain_list},
 };
 
-static uint8_t data[MOST_FRAME], frame[MOST_FRAME], capture[MOST_CAPTURE], listing[LISTING_ROOM];
+static uint8_t data[MOST_FRAME], frame[MOST_FRAME], capture[MOST_CAPTURE], listing[CIHLOMET_LISTING_ROOM];
 
 /* Writes an SRD high from 2 to 7: SD1, or SD2 with access points 60 and 62. Gives whether all went well. */
 static int write_times(const struct implementation *with, size_t size, long times)
 {
-    uint8_t to = size == SD1_COUNT ? NO_POINT : 60, from = size == SD1_COUNT ? NO_POINT : 62;
+    uint8_t to = size == SD1_COUNT ? CIHLOMET_NO_POINT : 60, from = size == SD1_COUNT ? CIHLOMET_NO_POINT : 62;
     size_t data_count = size == SD1_COUNT ? 0 : size - SD2_WITHOUT_DATA;
     int well = 1;
     while (times-- > 0)
@@ -41,7 +39,7 @@ static int read_times(const struct implementation *with, size_t size, long times
 {
     int well = write_times(with, size, 1);
     while (times-- > 0)
-        well &= with->read(frame, size).form == FORM_FRAME;
+        well &= with->read(frame, size).form == CIHLOMET_FRAME;
     return well;
 }
 

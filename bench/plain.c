@@ -1,12 +1,10 @@
 /* Reader, writer and lister in plain C with the same checks, as one would write them for speed: what the
  * library's instruction counts are held against. Document 01, sections "Frames" and "Lister". */
-#include "calls.h"
+#include "plain.h"
 #include <string.h>
 
-DECLARE_CALLS(plain)
-
-enum { SD1 = 0x10, SD2 = 0x68, SD3 = 0xA2, TOKEN = 0xDC, SHORT = 0xE5, END = 0x16 };
-enum { ANNOUNCED = 0x80, REQUEST = 0x40, ALL_STATIONS = 127 };
+enum { SD1 = 0x10, SD2 = 0x68, SD3 = 0xA2, SD4 = 0xDC, SC = 0xE5, ED = 0x16 };
+enum { ANNOUNCED = 0x80, REQUEST = 0x40, ALL_STATIONS = 127, NO_POINT = CIHLOMET_NO_POINT };
 enum { LAST_DESTINATION_POINT = 63, LAST_SOURCE_POINT = 62, LONGEST_UNIT = 246, MOST_BODIES = 4096 };
 
 /* The listed codes, a bit each, by FC's high four bits: replies, then requests by their FCB and FCV. */
@@ -30,25 +28,25 @@ static uint8_t checksum(const uint8_t *body, size_t count)
     return sum;
 }
 
-static struct frame refused(uint32_t number)
+static struct cihlomet_frame refused(uint8_t number)
 {
-    return (struct frame){.refused = number};
+    return (struct cihlomet_frame){.refused = number, .to = NO_POINT, .from = NO_POINT};
 }
 
 /* A frame with a checksum: its body of `length` octets starts at `body`. Refusals 5 to 11. */
-static struct frame read_checked(const uint8_t *octets, size_t count, size_t body, size_t length)
+static struct cihlomet_frame read_checked(const uint8_t *octets, size_t count, size_t body, size_t length)
 {
     size_t at = body + 3, end = body + length;
     if (count != end + 2)
         return refused(5);
-    if (octets[end + 1] != END)
+    if (octets[end + 1] != ED)
         return refused(6);
     if (octets[end] != checksum(octets + body, length))
         return refused(7);
 
     uint8_t da = octets[body], sa = octets[body + 1], control = octets[body + 2];
-    struct frame frame = {.form = FORM_FRAME, .destination = da & 127, .to = NO_POINT,
-                          .source = sa & 127, .from = NO_POINT, .control = control};
+    struct cihlomet_frame frame = {.form = CIHLOMET_FRAME, .destination = da & 127, .to = NO_POINT,
+                                   .source = sa & 127, .from = NO_POINT, .control = control};
     if (frame.source == ALL_STATIONS || (length == 3 && (da | sa) & ANNOUNCED))
         return refused(8);
     if (!is_listed(control))
@@ -70,7 +68,7 @@ static struct frame read_checked(const uint8_t *octets, size_t count, size_t bod
     return frame;
 }
 
-struct frame plain_read(const uint8_t *octets, size_t count)
+struct cihlomet_frame plain_read(const uint8_t *octets, size_t count)
 {
     if (count == 0)
         return refused(1);
@@ -85,21 +83,24 @@ struct frame plain_read(const uint8_t *octets, size_t count)
         return read_checked(octets, count, 4, octets[1]);
     case SD3:
         return read_checked(octets, count, 1, 11);
-    case TOKEN:
+    case SD4:
         if (count != 3)
             return refused(5);
         if (octets[1] >= ALL_STATIONS || octets[2] >= ALL_STATIONS)
             return refused(8);
-        return (struct frame){.form = FORM_TOKEN, .destination = octets[1], .source = octets[2]};
-    case SHORT:
-        return count == 1 ? (struct frame){.form = FORM_SHORT} : refused(5);
+        return (struct cihlomet_frame){.form = CIHLOMET_TOKEN, .destination = octets[1], .to = NO_POINT,
+                                       .source = octets[2], .from = NO_POINT};
+    case SC:
+        if (count != 1)
+            return refused(5);
+        return (struct cihlomet_frame){.form = CIHLOMET_SHORT, .to = NO_POINT, .from = NO_POINT};
     default:
         return refused(2);
     }
 }
 
 /* The writer's refusals 8 to 11, or 0. */
-static uint32_t refuse_head(uint8_t destination, uint8_t to, uint8_t source, uint8_t from, uint8_t control)
+static uint8_t refuse_head(uint8_t destination, uint8_t to, uint8_t source, uint8_t from, uint8_t control)
 {
     if (source >= ALL_STATIONS || destination > ALL_STATIONS)
         return 8;
@@ -112,18 +113,18 @@ static uint32_t refuse_head(uint8_t destination, uint8_t to, uint8_t source, uin
     return 0;
 }
 
-struct written plain_write(uint8_t destination, uint8_t to, uint8_t source, uint8_t from, uint8_t control,
+struct cihlomet_written plain_write(uint8_t destination, uint8_t to, uint8_t source, uint8_t from, uint8_t control,
                            const uint8_t *data, size_t data_count, uint8_t *out, size_t out_count)
 {
-    uint32_t number = refuse_head(destination, to, source, from, control);
+    uint8_t number = refuse_head(destination, to, source, from, control);
     if (number != 0)
-        return (struct written){.refused = number};
+        return (struct cihlomet_written){.refused = number};
     size_t points = (size_t)(to != NO_POINT) + (from != NO_POINT);
     if (data_count > LONGEST_UNIT - points)
-        return (struct written){.refused = 12};
+        return (struct cihlomet_written){.refused = 12};
     size_t unit = points + data_count, count = unit == 0 ? 6 : unit + 9;
     if (out_count < count)
-        return (struct written){.refused = 13};
+        return (struct cihlomet_written){.refused = 13};
 
     uint8_t *at = out;
     if (unit == 0) {
@@ -147,28 +148,28 @@ struct written plain_write(uint8_t destination, uint8_t to, uint8_t source, uint
         at += data_count;
     }
     at[0] = sum;
-    at[1] = END;
-    return (struct written){.count = (uint32_t)count};
+    at[1] = ED;
+    return (struct cihlomet_written){.count = count};
 }
 
-struct written plain_token(uint8_t destination, uint8_t source, uint8_t *out, size_t out_count)
+struct cihlomet_written plain_token(uint8_t destination, uint8_t source, uint8_t *out, size_t out_count)
 {
     if (destination >= ALL_STATIONS || source >= ALL_STATIONS)
-        return (struct written){.refused = 8};
+        return (struct cihlomet_written){.refused = 8};
     if (out_count < 3)
-        return (struct written){.refused = 13};
-    out[0] = TOKEN;
+        return (struct cihlomet_written){.refused = 13};
+    out[0] = SD4;
     out[1] = destination;
     out[2] = source;
-    return (struct written){.count = 3};
+    return (struct cihlomet_written){.count = 3};
 }
 
-struct written plain_short(uint8_t *out, size_t out_count)
+struct cihlomet_written plain_short(uint8_t *out, size_t out_count)
 {
     if (out_count < 1)
-        return (struct written){.refused = 13};
-    out[0] = SHORT;
-    return (struct written){.count = 1};
+        return (struct cihlomet_written){.refused = 13};
+    out[0] = SC;
+    return (struct cihlomet_written){.count = 1};
 }
 
 /* The pieces of a line are put one after the other; each gives the place behind it. */
@@ -200,18 +201,18 @@ static uint8_t *put_next(uint8_t *at, uint32_t number)
 
 static uint8_t *put_line(uint8_t *at, uint32_t index, const uint8_t *body, size_t length)
 {
-    struct frame frame = plain_read(body, length);
+    struct cihlomet_frame frame = plain_read(body, length);
     at = put_number(at, index);
     if (frame.refused != 0) {
         at = put_next(PUT(at, " bad"), frame.refused);
-    } else if (frame.form == FORM_SHORT) {
+    } else if (frame.form == CIHLOMET_SHORT) {
         at = PUT(at, " short");
-    } else if (frame.form == FORM_TOKEN) {
+    } else if (frame.form == CIHLOMET_TOKEN) {
         at = put_next(put_next(PUT(at, " token"), frame.destination), frame.source);
     } else {
         at = frame.control & REQUEST ? PUT(at, " request") : PUT(at, " reply");
         at = put_next(put_next(at, frame.destination), frame.source);
-        at = put_next(put_next(at, frame.control & 15), frame.count);
+        at = put_next(put_next(at, frame.control & 15), (uint32_t)frame.count);
     }
     *at++ = '\n';
     return at;
@@ -220,7 +221,7 @@ static uint8_t *put_line(uint8_t *at, uint32_t index, const uint8_t *body, size_
 size_t plain_list(const uint8_t *capture, size_t count, uint8_t *out, size_t out_count)
 {
     uint8_t *at = out;
-    if (out_count < LISTING_ROOM)
+    if (out_count < CIHLOMET_LISTING_ROOM)
         return 0;
     if (count < 2)
         return (size_t)(PUT(at, "end short\n") - out);

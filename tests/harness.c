@@ -2,28 +2,15 @@
  * call, as `reference answer` does. Every buffer that it lends ends at a fence, so that a read or a write past
  * the end stops the program and names the call. */
 #define _GNU_SOURCE
+#include "../include/cihlomet.h"
 #include <signal.h>
-#include <stdint.h>
 #include <stdio.h>
 #include <stdlib.h>
 #include <string.h>
 #include <sys/mman.h>
 #include <unistd.h>
 
-/* ---- The library's C functions ---- */
-/* form: 1 token, 2 short, 3 frame; to, from: the access point, 255 for none. */
-struct cihlomet_frame { uint32_t refused, form, destination, to, source, from, control, start, count; };
-struct cihlomet_written { uint32_t refused, count; };
-struct cihlomet_frame cihlomet_read(const uint8_t *octets, size_t count);
-struct cihlomet_written cihlomet_write(uint8_t destination, uint8_t to, uint8_t source, uint8_t from,
-                                       uint8_t control, const uint8_t *data, size_t data_count,
-                                       uint8_t *out, size_t out_count);
-struct cihlomet_written cihlomet_token(uint8_t destination, uint8_t source, uint8_t *out, size_t out_count);
-struct cihlomet_written cihlomet_short(uint8_t *out, size_t out_count);
-size_t cihlomet_list(const uint8_t *capture, size_t count, uint8_t *out, size_t out_count);
-/* ---- */
-
-enum { TOKEN = 1, SHORT = 2, FRAME = 3, NO_POINT = 255, BEFORE = 0xAA, MOST_WORDS = 8 };
+enum { BEFORE = 0xAA, MOST_WORDS = 8 };
 enum { FENCE = 1 << 16, ROOM = 1 << 21 };
 
 static char *line;          /* the call being answered */
@@ -94,7 +81,7 @@ static uint8_t octet(const char *word)
 
 static uint8_t point(const char *word)
 {
-    return strcmp(word, "-") == 0 ? NO_POINT : (uint8_t)number(word, NO_POINT - 1);
+    return strcmp(word, "-") == 0 ? CIHLOMET_NO_POINT : (uint8_t)number(word, CIHLOMET_NO_POINT - 1);
 }
 
 /* An output of `room` octets right before the output fence, as every call finds it. */
@@ -103,9 +90,9 @@ static uint8_t *output(size_t room)
     return memset(output_end - room, BEFORE, room);
 }
 
-static void say_point(uint32_t point)
+static void say_point(uint8_t point)
 {
-    if (point == NO_POINT)
+    if (point == CIHLOMET_NO_POINT)
         printf("-");
     else
         printf("%u", point);
@@ -115,16 +102,16 @@ static void say_read(struct cihlomet_frame frame)
 {
     if (frame.refused != 0) {
         printf("refused %u\n", frame.refused);
-    } else if (frame.form == TOKEN) {
+    } else if (frame.form == CIHLOMET_TOKEN) {
         printf("token %u %u\n", frame.destination, frame.source);
-    } else if (frame.form == SHORT) {
+    } else if (frame.form == CIHLOMET_SHORT) {
         printf("short\n");
-    } else if (frame.form == FRAME) {
+    } else if (frame.form == CIHLOMET_FRAME) {
         printf("frame %u ", frame.destination);
         say_point(frame.to);
         printf(" %u ", frame.source);
         say_point(frame.from);
-        printf(" %u %u %u\n", frame.control, frame.start, frame.count);
+        printf(" %u %zu %zu\n", frame.control, frame.start, frame.count);
     } else {
         printf("form %u\n", frame.form);
     }
@@ -136,7 +123,7 @@ static void say_written(struct cihlomet_written written, const uint8_t *out, siz
     if (written.refused != 0)
         printf("refused %u ", written.refused);
     else
-        printf("ok %u ", written.count);
+        printf("ok %zu ", written.count);
     for (size_t i = 0; i < room; i++) {
         putchar("0123456789ABCDEF"[out[i] >> 4]);
         putchar("0123456789ABCDEF"[out[i] & 15]);

@@ -20,7 +20,7 @@ use crate::text::{hex, optional};
 const FLIPPED_FRAMES: usize = 1000;
 
 /// The least output that the library's lister takes.
-pub const LISTING_ROOM: usize = 131_072;
+pub const LISTING_ROOM: usize = 139_274;
 
 /// The calls of reader and writer, with `count` seeded strings to read and half as many frames to write.
 pub fn frames(seed: u64, count: usize) -> Vec<String> {

@@ -1,0 +1,244 @@
+// The C boundary: the reader, the writer and the lister for programs in C. Numbers go in and structs of numbers come
+// out; every number is taken, and out-of-rule ones are refused. Only an FC that is not listed, which the fields cannot
+// hold, is refused here. Assumes nothing.
+ghost use mathlib.Core.Path.{_≡_};
+ghost use mathlib.Core.List.{[]};
+ghost use Rattle.frame.specs.Reading.{read as Reading·read};
+ghost use Rattle.frame.specs.Format.{written, left};
+ghost use Rattle.capture.specs.Listing.{listed, left as Listing·left};
+ghost use Rattle.cihlomet.specs.Flat.{pointOf, accessOf, headFrom, tokenFrom, flat as Flat·flat, flatWritten, unlisted as Flat·unlisted, writes, leaves};
+use frame::Access;
+use frame::Address;
+use frame::Answer;
+use frame::Fields;
+use frame::Head;
+use frame::Part;
+use frame::Point;
+use frame::Written;
+
+// What was read: refused is 0 or the refusal; form is 1 for a token, 2 for a short acknowledgement, 3 for a frame.
+#[repr(C)]
+pub struct FlatFrame {
+    pub refused: u8,
+    pub form: u8,
+    pub destination: u8,
+    pub to: u8,
+    pub source: u8,
+    pub from: u8,
+    pub control: u8,
+    pub start: usize,
+    pub count: usize,
+}
+
+// What was written: refused is 0 or the refusal, and count the octets written.
+#[repr(C)]
+pub struct FlatWritten {
+    pub refused: u8,
+    pub count: usize,
+}
+
+fn point_of(a: Access) -> u8
+    ensures { λ r. ⌜ r ≡ pointOf a ⌝ }
+{
+    match a {
+        Access::None => 255,
+        Access::At(p) => p.0,
+    }
+}
+
+fn access_of(n: u8) -> Access
+    ensures { λ r. ⌜ r ≡ accessOf n ⌝ }
+{
+    if n == 255 {
+        return Access::None;
+    }
+    Access::At(Point(n))
+}
+
+fn head_from(destination: u8, to: u8, source: u8, from: u8, control: u8) -> Head
+    ensures { λ r. ⌜ r ≡ headFrom destination to source from control ⌝ }
+{
+    Head {
+        destination: Address(destination),
+        to: access_of(to),
+        source: Address(source),
+        from: access_of(from),
+        control: frame::control_of(control),
+    }
+}
+
+fn flat_head(h: Head, p: Part) -> FlatFrame
+    ensures { λ r. ⌜ r ≡ Flat·flat (Answer.Read (Fields.Frame h) p) ⌝ }
+{
+    let to = h.to;
+    let from = h.from;
+    let control = h.control;
+    FlatFrame {
+        refused: 0,
+        form: 3,
+        destination: h.destination.0,
+        to: point_of(to),
+        source: h.source.0,
+        from: point_of(from),
+        control: frame::fc(control),
+        start: p.start,
+        count: p.count,
+    }
+}
+
+fn flat_token(destination: Address, source: Address, p: Part) -> FlatFrame
+    ensures { λ r. ⌜ r ≡ Flat·flat (Answer.Read (Fields.Token destination source) p) ⌝ }
+{
+    FlatFrame {
+        refused: 0,
+        form: 1,
+        destination: destination.0,
+        to: 255,
+        source: source.0,
+        from: 255,
+        control: 0,
+        start: p.start,
+        count: p.count,
+    }
+}
+
+fn flat_short(p: Part) -> FlatFrame
+    ensures { λ r. ⌜ r ≡ Flat·flat (Answer.Read Fields.Short p) ⌝ }
+{
+    FlatFrame {
+        refused: 0,
+        form: 2,
+        destination: 0,
+        to: 255,
+        source: 0,
+        from: 255,
+        control: 0,
+        start: p.start,
+        count: p.count,
+    }
+}
+
+fn flat_refused(refused: u8) -> FlatFrame
+    ensures { λ r. ⌜ r ≡ Flat·flat (Answer.Refused refused) ⌝ }
+{
+    FlatFrame {
+        refused,
+        form: 0,
+        destination: 0,
+        to: 255,
+        source: 0,
+        from: 255,
+        control: 0,
+        start: 0,
+        count: 0,
+    }
+}
+
+fn flat_fields(f: Fields, p: Part) -> FlatFrame
+    ensures { λ r. ⌜ r ≡ Flat·flat (Answer.Read f p) ⌝ }
+{
+    match f {
+        Fields::Token {
+            destination,
+            source,
+        } => flat_token(destination, source, p),
+        Fields::Short => flat_short(p),
+        Fields::Frame(h) => flat_head(h, p),
+    }
+}
+
+// Reads a frame.
+#[no_mangle]
+pub extern "C" fn cihlomet_read(octets: &[u8]) -> FlatFrame
+    ensures { λ r. ⌜ r ≡ Flat·flat (Reading·read (now (octets .entry))) ⌝ }
+{
+    match read::read(octets) {
+        Answer::Refused(n) => flat_refused(n),
+        Answer::Read(f, p) => flat_fields(f, p),
+    }
+}
+
+fn flat_written(w: Written) -> FlatWritten
+    ensures { λ r. ⌜ r ≡ flatWritten w ⌝ }
+{
+    match w {
+        Written::Refused(n) => FlatWritten {
+            refused: n,
+            count: 0,
+        },
+        Written::Count(n) => FlatWritten {
+            refused: 0,
+            count: n,
+        },
+    }
+}
+
+// The refusal of a frame whose FC is not listed: 8 goes before 9.
+fn unlisted(destination: u8, source: u8) -> FlatWritten
+    ensures { λ r. ⌜ r ≡ Flat·unlisted destination source ⌝ }
+{
+    if 126 < source {
+        return FlatWritten {
+            refused: 8,
+            count: 0,
+        };
+    }
+    if 127 < destination {
+        return FlatWritten {
+            refused: 8,
+            count: 0,
+        };
+    }
+    FlatWritten {
+        refused: 9,
+        count: 0,
+    }
+}
+
+// Writes a frame with a control octet.
+#[no_mangle]
+pub extern "C" fn cihlomet_write(
+    destination: u8,
+    to: u8,
+    source: u8,
+    from: u8,
+    control: u8,
+    data: &[u8],
+    out: &mut [u8],
+) -> FlatWritten
+    ensures { λ r. ⌜ r ≡ writes destination to source from control (now («data» .entry)) (now (out .entry)) ⌝ }
+    ensures { λ _. ⌜ now (out .exit) ≡ leaves destination to source from control (now («data» .entry)) (now (out .entry)) ⌝ }
+{
+    if !frame::listed(control) {
+        return unlisted(destination, source);
+    }
+    let h = head_from(destination, to, source, from, control);
+    flat_written(write::write_frame(h, data, out))
+}
+
+// Writes a token.
+#[no_mangle]
+pub extern "C" fn cihlomet_token(destination: u8, source: u8, out: &mut [u8]) -> FlatWritten
+    ensures { λ r. ⌜ r ≡ flatWritten (written (tokenFrom destination source) [] (now (out .entry))) ⌝ }
+    ensures { λ _. ⌜ now (out .exit) ≡ left (tokenFrom destination source) [] (now (out .entry)) ⌝ }
+{
+    flat_written(write::write_token(Address(destination), Address(source), out))
+}
+
+// Writes a short acknowledgement.
+#[no_mangle]
+pub extern "C" fn cihlomet_short(out: &mut [u8]) -> FlatWritten
+    ensures { λ r. ⌜ r ≡ flatWritten (written Fields.Short [] (now (out .entry))) ⌝ }
+    ensures { λ _. ⌜ now (out .exit) ≡ left Fields.Short [] (now (out .entry)) ⌝ }
+{
+    flat_written(write::write_short(out))
+}
+
+// Lists a capture. The least output is 139274 octets: to a shorter one the answer is 0.
+#[no_mangle]
+pub extern "C" fn cihlomet_list(capture: &[u8], out: &mut [u8]) -> usize
+    ensures { λ r. ⌜ r ≡ listed (now (capture .entry)) (now (out .entry)) ⌝ }
+    ensures { λ _. ⌜ now (out .exit) ≡ Listing·left (now (capture .entry)) (now (out .entry)) ⌝ }
+{
+    capture::list(capture, out)
+}
