@@ -6,27 +6,9 @@ use borrow.Author.Needs.{needs}
 use Rattle.cihlomet.proofs.cihlomet_write.Statement.{statement}
 use Rattle.cihlomet.proofs.cihlomet_write.Tie as tie
 
-listed-requires : tie.Need-listed-requires
-listed-requires c κs = search needs
-
-unlisted-requires : tie.Need-unlisted-requires
-unlisted-requires c κs = search needs
-
 returns : tie.Need-returns
 unfolding writes leaves
 returns c = search asked
-
-head-from-requires : tie.Need-head-from-requires
-head-from-requires c κs = search needs
-
-write-frame-requires : tie.Need-write-frame-requires
-write-frame-requires c κs = search needs
-
-flat-written-requires : tie.Need-flat-written-requires
-flat-written-requires c κs = search needs
-
-same-length : tie.Need-same-length
-same-length c = search needs
 
 returns-2 : tie.Need-returns-2
 unfolding writes leaves
@@ -39,11 +21,11 @@ pub cihlomet-write-spec : {M : Type 1} → statement M
 cihlomet-write-spec =
     tie.close
     (tie.spec
-    listed-requires
-    unlisted-requires
+    (λ c κs. search needs)
+    (λ c κs. search needs)
     returns
-    head-from-requires
-    write-frame-requires
-    flat-written-requires
-    same-length
+    (λ c κs. search needs)
+    (λ c κs. search needs)
+    (λ c κs. search needs)
+    (λ c. search needs)
     returns-2)

@@ -4,24 +4,6 @@ use borrow.Author.Needs.{needs}
 use Rattle.cihlomet.proofs.flat_fields.Statement.{statement}
 use Rattle.cihlomet.proofs.flat_fields.Tie as tie
 
-enum-known-f : tie.Need-enum-known-f
-enum-known-f c = search needs
-
-flat-token-requires : tie.Need-flat-token-requires
-flat-token-requires c κs = search needs
-
-enum-told : tie.Need-enum-told
-enum-told c = search needs
-
-flat-short-requires : tie.Need-flat-short-requires
-flat-short-requires c κs = search needs
-
-enum-known-f-2 : tie.Need-enum-known-f-2
-enum-known-f-2 c = search needs
-
-flat-head-requires : tie.Need-flat-head-requires
-flat-head-requires c κs = search needs
-
 returns : tie.Need-returns
 returns c = rw (c .before .before .f .given .1) (c .flat-token .ensures)
 
@@ -35,12 +17,12 @@ pub flat-fields-spec : {M : Type 1} → statement M
 flat-fields-spec =
     tie.close
     (tie.spec
-    enum-known-f
-    flat-token-requires
-    enum-told
-    flat-short-requires
-    enum-known-f-2
-    flat-head-requires
+    (λ c. search needs)
+    (λ c κs. search needs)
+    (λ c. search needs)
+    (λ c κs. search needs)
+    (λ c. search needs)
+    (λ c κs. search needs)
     returns
     returns-2
     returns-3)

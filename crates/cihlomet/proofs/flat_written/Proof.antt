@@ -5,12 +5,6 @@ use borrow.Author.Needs.{needs}
 use Rattle.cihlomet.proofs.flat_written.Statement.{statement}
 use Rattle.cihlomet.proofs.flat_written.Tie as tie
 
-enum-known-w : tie.Need-enum-known-w
-enum-known-w c = search needs
-
-enum-known-w-2 : tie.Need-enum-known-w-2
-enum-known-w-2 c = search needs
-
 returns : tie.Need-returns
 unfolding flatWritten
 returns c = rw (c .before .w .given .1)
@@ -20,4 +14,4 @@ unfolding flatWritten
 returns-2 c = rw (c .before .w2 .given .1)
 
 pub flat-written-spec : {M : Type 1} → statement M
-flat-written-spec = tie.close (tie.spec enum-known-w enum-known-w-2 returns returns-2)
+flat-written-spec = tie.close (tie.spec (λ c. search needs) (λ c. search needs) returns returns-2)

@@ -5,12 +5,6 @@ use borrow.Author.Needs.{needs}
 use Rattle.cihlomet.proofs.point_of.Statement.{statement}
 use Rattle.cihlomet.proofs.point_of.Tie as tie
 
-enum-told : tie.Need-enum-told
-enum-told c = search needs
-
-enum-known-a : tie.Need-enum-known-a
-enum-known-a c = search needs
-
 returns : tie.Need-returns
 unfolding pointOf
 returns c = rw (c .enum-told .given .1)
@@ -20,4 +14,4 @@ unfolding pointOf
 returns-2 c = rw (c .before .a .given .1)
 
 pub point-of-spec : {M : Type 1} → statement M
-point-of-spec = tie.close (tie.spec enum-told enum-known-a returns returns-2)
+point-of-spec = tie.close (tie.spec (λ c. search needs) (λ c. search needs) returns returns-2)

@@ -1,0 +1,104 @@
+-- Document 01, "Times": settings and their rules, the times that follow from them, the wait of each sending, and the
+-- time that is left. Assumes nothing.
+use Prim.Native.Nat.{ℕ, _+_, _-_, _*_, _^_, _%_, _≤_, max}
+use mathlib.Core.Bool.{Bool, true, false}
+use Rattle.choice.specs.Choice.{pick, less, said}
+use Rattle.times.specs.declared.Settings.{Settings}
+use Rattle.times.specs.declared.Times.{Times}
+use Rattle.times.specs.declared.Reckoned.{Reckoned}
+use Rattle.times.specs.declared.Reckoned.the-variants.{Refused, Reckon}
+use Rattle.times.specs.declared.Sending.{Sending}
+use Rattle.times.specs.declared.Sending.the-variants.{Reply, AfterSdn, Other}
+
+-- a number outside least..most
+unfoldable pub outside : ℕ → ℕ → ℕ → Bool
+outside n least most = pick (less n least) true (pick (less most n) true false)
+
+-- "TSM = 2 + 2 Tset + Tqui"
+unfoldable pub tsm : Settings → ℕ
+tsm s = 2 + 2 * s .tset .0 + s .tqui .0
+
+-- "Tid1 = 33 + TSM"
+unfoldable pub tid1 : Settings → ℕ
+tid1 s = 33 + tsm s
+
+-- "Tid2 = max(33 + TSM, max TSDR)"
+unfoldable pub tid2 : Settings → ℕ
+tid2 s = max (33 + tsm s) (s .maxtsdr .0)
+
+-- "TSL = 2 TTD + 11 + TSM + max(max TSDR, Tid1)"
+unfoldable pub tsl : Settings → ℕ
+tsl s = 2 * s .ttd .0 + 11 + tsm s + max (s .maxtsdr .0) (tid1 s)
+
+-- "TTO = 6 TSL + 2 TS TSL"
+unfoldable pub tto : Settings → ℕ → ℕ
+tto s ts = 6 * tsl s + 2 * ts * tsl s
+
+-- TSL "over 65535 is refused"
+unfoldable pub tooLong : Settings → Bool
+tooLong s = pick (less 65535 (tsl s)) true false
+
+-- "Tset 20..255, Tqui 0..255, min TSDR 20..65535 and above Tqui, max TSDR from min TSDR to 65535, TTD 0..65535, TTR
+-- 20..2^24-1, retry limit 0..15"
+unfoldable pub unruly : Settings → Bool
+unruly s =
+    pick (said (outside (s .tset .0) 20 255)) true
+    (pick (less 255 (s .tqui .0)) true
+    (pick (said (outside (s .mintsdr .0) 20 65535)) true
+    (pick (less (s .tqui .0) (s .mintsdr .0))
+    (pick (said (outside (s .maxtsdr .0) (s .mintsdr .0) 65535)) true
+    (pick (less 65535 (s .ttd .0)) true
+    (pick (said (outside (s .ttr .0) 20 16777215)) true
+    (pick (less 15 (s .retries .0)) true
+    (tooLong s)))))
+    true)))
+
+-- the times that follow from settings and TS
+unfoldable pub timesOf : Settings → ℕ → Times
+timesOf s ts =
+    record {
+      tsm = record { 0 = tsm s };
+      tid1 = record { 0 = tid1 s };
+      tid2 = record { 0 = tid2 s };
+      tsl = record { 0 = tsl s };
+      tto = record { 0 = tto s ts };
+    }
+
+-- refusal 20, "setting, TS over 126 .. out of rule", or the times
+unfoldable pub reckoned : Settings → ℕ → Reckoned
+reckoned s ts = pick (said (unruly s)) (Refused 20) (pick (less 126 ts) (Refused 20) (Reckon (timesOf s ts)))
+
+-- what keeps the sums of settings small
+pub record Small (s : Settings) : Type 0 where
+  pub tset : s .tset .0 ≤ 255
+  pub tqui : s .tqui .0 ≤ 255
+  pub maxtsdr : s .maxtsdr .0 ≤ 65535
+  pub ttd : s .ttd .0 ≤ 65535
+
+-- "Each sending comes with its wait: Tid2 before a request or token if this station's last sending in the hold was an
+-- SDN, Tid1 before others, min TSDR before a reply"
+unfoldable pub waitOf : Settings → Sending → ℕ
+waitOf s Reply = s .mintsdr .0
+waitOf s AfterSdn = tid2 s
+waitOf s Other = tid1 s
+
+-- "elapsed time is later minus earlier modulo 2^32"
+unfoldable pub elapsed : ℕ → ℕ → ℕ
+elapsed later earlier = (later + 2 ^ 32 - earlier) % 2 ^ 32
+
+-- "Time is left while (clock - the acceptance before this hold's) modulo 2^32 is below TTR"
+unfoldable pub timeLeft : ℕ → ℕ → ℕ → Bool
+timeLeft clock acceptance ttr = less (elapsed clock acceptance) ttr
+
+-- "Standard settings: Tset 20, Tqui 0, min TSDR 20, max TSDR 400, TTD 1, TTR 10000, retry limit 1"
+unfoldable pub standard : Settings
+standard =
+    record {
+      tset = record { 0 = 20 };
+      tqui = record { 0 = 0 };
+      mintsdr = record { 0 = 20 };
+      maxtsdr = record { 0 = 400 };
+      ttd = record { 0 = 1 };
+      ttr = record { 0 = 10000 };
+      retries = record { 0 = 1 };
+    }
