@@ -1,0 +1,15 @@
+-- `ring::remove` meets its contract: one place changed.
+-- Assumes nothing.
+use Rattle.ring.specs.Ring.{remove}
+use borrow.Author.Needs.{needs}
+use Rattle.ring.proofs.remove.Statement.{statement}
+use Rattle.ring.proofs.remove.Tie as tie
+
+pub remove-spec : {M : Type 1} → statement M
+unfolding remove
+remove-spec =
+    tie.close
+    (tie.spec
+    (λ c κs. search needs)
+    (λ c. search needs)
+    (λ c. cc))
