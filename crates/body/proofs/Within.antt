@@ -1,13 +1,18 @@
 -- What a body that is not refused tells: its data begin within it. Assumes nothing.
-use Prim.Native.Nat.{ℕ, _+_, _≤_}
+use Prim.Native.Nat.{ℕ, _+_, _<_, _≤_}
 use mathlib.Core.Bool.{Bool, true, false, true≢false}
 use mathlib.Core.List.{List}
 use mathlib.Core.Path.{_≡_, refl}
 use native.Mathlib.Omega.{arith}
 use lib.ListN.{length}
 use Rattle.choice.specs.Choice.{pick, less}
-use Rattle.choice.proofs.Rules.{true-less, passed, held, is-said}
+use Rattle.choice.proofs.Rules.{less-true, pick-true, true-less, passed, held, is-said}
 use Rattle.frame.specs.Reading.{octet, extensions, dataAt, misnamed, bodyRefusal}
+
+-- an address octet over 127 announces one octet
+pub announced : (a : ℕ) → 127 < a → extensions a ≡ 1
+unfolding extensions
+announced a h = pick-true 1 0 (less-true h)
 
 -- by cases of the two tests: an octet is announced, and it is there
 within : (i n : ℕ) (r t u : Bool) → i ≤ n → less i n ≡ u → pick t (pick u r true) false ≡ false → i + pick t 1 0 ≤ n

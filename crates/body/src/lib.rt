@@ -4,7 +4,7 @@ ghost use mathlib.Core.Path.{_≡_};
 ghost use Prim.Native.Nat.{_+_, _≤_};
 ghost use lib.ListN.{length};
 ghost use Rattle.frame.specs.Reading.{accessOf, dataAt, headOf, bodyRefusal, bodyAnswer};
-ghost use Rattle.frame.specs.Reading.{octet as Reading·octet, extensions as Reading·extensions, extended as Reading·extended, misnamed as Reading·misnamed};
+ghost use Rattle.frame.specs.Reading.{extensions as Reading·extensions, extended as Reading·extended, misnamed as Reading·misnamed};
 use frame::Access;
 use frame::Address;
 use frame::Answer;
@@ -12,13 +12,6 @@ use frame::Fields;
 use frame::Head;
 use frame::Part;
 use frame::Point;
-
-// The octet at a place, 0 past the end.
-fn octet(s: &[u8], i: usize) -> u8
-    ensures { λ r. ⌜ r ≡ Reading·octet (now (s .entry)) i ⌝ }
-{
-    if i < s.len() { s[i] } else { 0 }
-}
 
 // How many extension octets an address octet announces.
 fn extensions(a: u8) -> usize
@@ -31,12 +24,13 @@ fn extensions(a: u8) -> usize
     0
 }
 
-// The access point that an address octet announces at a place of the body.
+// The access point that an address octet announces at a place of the body, where its octet is not missing.
 fn access_of(b: &[u8], a: u8, i: usize) -> Access
+    requires { ⌜ i + Reading·extensions a ≤ length (now b) ⌝ }
     ensures { λ r. ⌜ r ≡ accessOf (now (b .entry)) a i ⌝ }
 {
     if 127 < a {
-        return Access::At(Point(octet(b, i)));
+        return Access::At(Point(b[i]));
     }
     Access::None
 }
@@ -50,9 +44,9 @@ fn data_at(b: &[u8]) -> usize
     3 + extensions(b[0]) + extensions(b[1])
 }
 
-// The fields of a body.
+// The fields of a body whose data begin within it.
 fn head_of(b: &[u8]) -> Head
-    requires { ⌜ 3 ≤ length (now b) ⌝ }
+    requires { ⌜ dataAt (now b) ≤ length (now b) ⌝ }
     ensures { λ r. ⌜ r ≡ headOf (now (b .entry)) ⌝ }
 {
     let d = b[0];

@@ -3,7 +3,7 @@
 ghost use mathlib.Core.Path.{_≡_};
 ghost use Prim.Native.Nat.{_+_, _≤_};
 ghost use lib.ListN.{length};
-ghost use Rattle.frame.specs.Reading.{readBody, readSd2, readToken, readShort};
+ghost use Rattle.frame.specs.Reading.{readBody, readToken, readShort};
 ghost use Rattle.frame.specs.Reading.{part as Reading·part, mismeasured as Reading·mismeasured, read as Reading·read};
 use frame::Address;
 use frame::Answer;
@@ -79,19 +79,6 @@ fn wide(x: u8) -> usize
     x as usize
 }
 
-fn read_sd2(s: &[u8]) -> Answer
-    ensures { λ r. ⌜ r ≡ readSd2 (now (s .entry)) ⌝ }
-{
-    if s.len() < 4 {
-        return Answer::Refused(3);
-    }
-    let le = s[1];
-    if mismeasured(le, s[2], s[3]) {
-        return Answer::Refused(4);
-    }
-    read_body(s, 4, wide(le))
-}
-
 fn read_token(s: &[u8]) -> Answer
     ensures { λ r. ⌜ r ≡ readToken (now (s .entry)) ⌝ }
 {
@@ -124,7 +111,7 @@ fn read_short(s: &[u8]) -> Answer
     Answer::Read(Fields::Short, Part { start: 0, count: 0 })
 }
 
-// What a string of octets is read as.
+// What a string of octets is read as. A form that has a body tells where it stands, and then all are read alike.
 pub fn read(s: &[u8]) -> Answer
     ensures { λ r. ⌜ r ≡ Reading·read (now (s .entry)) ⌝ }
 {
@@ -132,20 +119,30 @@ pub fn read(s: &[u8]) -> Answer
         return Answer::Refused(1);
     }
     let first = s[0];
+    let start;
+    let n;
     if first == SD1 {
-        return read_body(s, 1, 3);
-    }
-    if first == SD2 {
-        return read_sd2(s);
-    }
-    if first == SD3 {
-        return read_body(s, 1, 11);
-    }
-    if first == SD4 {
+        start = 1;
+        n = 3;
+    } else if first == SD2 {
+        if s.len() < 4 {
+            return Answer::Refused(3);
+        }
+        let le = s[1];
+        if mismeasured(le, s[2], s[3]) {
+            return Answer::Refused(4);
+        }
+        start = 4;
+        n = wide(le);
+    } else if first == SD3 {
+        start = 1;
+        n = 11;
+    } else if first == SD4 {
         return read_token(s);
-    }
-    if first == SC {
+    } else if first == SC {
         return read_short(s);
+    } else {
+        return Answer::Refused(2);
     }
-    Answer::Refused(2)
+    read_body(s, start, n)
 }

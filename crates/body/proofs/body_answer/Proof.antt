@@ -13,10 +13,11 @@ returns : tie.Need-returns
 unfolding bodyAnswer answer
 returns c = unless-same _ (λ q. c .if1 .taken (c .before .body-refusal .ensures ∙ q)) (cc)
 
+head-of-requires : tie.Need-head-of-requires
+head-of-requires c κs = data-within (c .before .before .before .before .args .b .now) (omega arith) (cc)
+
 sub-t10 : tie.Need-sub-t10
-sub-t10 c =
-    let b = c .before .before .before .before .before .args .b .now in
-    omega (arith, data-within b (omega arith) (cc))
+sub-t10 c = omega (arith, head-of-requires (c .before) (c .before .before .before .before .before .κs))
 
 returns-2 : tie.Need-returns-2
 unfolding bodyAnswer answer
@@ -29,7 +30,7 @@ body-answer-spec =
     (λ c κs. search needs)
     returns
     (λ c κs. search needs)
-    (λ c κs. search needs)
+    head-of-requires
     (λ c. omega arith)
     sub-t10
     returns-2)
