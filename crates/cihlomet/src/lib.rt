@@ -6,7 +6,7 @@ ghost use mathlib.Core.List.{[]};
 ghost use Rattle.frame.specs.Reading.{read as Reading·read};
 ghost use Rattle.frame.specs.Format.{written, left};
 ghost use Rattle.capture.specs.Listing.{listed, left as Listing·left};
-ghost use Rattle.cihlomet.specs.Flat.{pointOf, accessOf, headFrom, tokenFrom, flat as Flat·flat, flatWritten, unlisted as Flat·unlisted, writes, leaves};
+ghost use Rattle.cihlomet.specs.Flat.{pointOf, accessOf, tokenFrom, flat as Flat·flat, flatWritten, unlisted as Flat·unlisted, writes, leaves};
 use frame::Access;
 use frame::Address;
 use frame::Answer;
@@ -53,18 +53,6 @@ fn access_of(n: u8) -> Access
         return Access::None;
     }
     Access::At(Point(n))
-}
-
-fn head_from(destination: u8, to: u8, source: u8, from: u8, control: u8) -> Head
-    ensures { λ r. ⌜ r ≡ headFrom destination to source from control ⌝ }
-{
-    Head {
-        destination: Address(destination),
-        to: access_of(to),
-        source: Address(source),
-        from: access_of(from),
-        control: frame::control_of(control),
-    }
 }
 
 fn flat_head(h: Head, p: Part) -> FlatFrame
@@ -209,10 +197,17 @@ pub extern "C" fn cihlomet_write(
     ensures { λ r. ⌜ r ≡ writes destination to source from control (now («data» .entry)) (now (out .entry)) ⌝ }
     ensures { λ _. ⌜ now (out .exit) ≡ leaves destination to source from control (now («data» .entry)) (now (out .entry)) ⌝ }
 {
-    if !frame::listed(control) {
+    let c = frame::control_of(control);
+    if !frame::named(c, control) {
         return unlisted(destination, source);
     }
-    let h = head_from(destination, to, source, from, control);
+    let h = Head {
+        destination: Address(destination),
+        to: access_of(to),
+        source: Address(source),
+        from: access_of(from),
+        control: c,
+    };
     flat_written(write::write_frame(h, data, out))
 }
 

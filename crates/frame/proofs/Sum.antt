@@ -1,6 +1,6 @@
 -- Laws of the sum of octets and of FCS. Assumes nothing.
 use Prim.Native.Nat.{ℕ, zero, suc, _+_, _<_, _%_}
-use mathlib.Core.Path.{_≡_, refl, ap}
+use mathlib.Core.Path.{_≡_}
 use mathlib.Core.List.{List, [], _∷_, _++_}
 use native.Mathlib.Omega.{arith}
 use native.Mathlib.Numerals.{add-one}

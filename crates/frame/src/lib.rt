@@ -1,8 +1,9 @@
 // The fields of a frame, its control octet FC and its checksum FCS; the definitions of the whole frame table are in
 // specs/. Reading and writing are left to the crates above. Assumes nothing.
 ghost use mathlib.Core.Path.{_≡_};
-ghost use Prim.Native.Nat.{_<_};
-ghost use Rattle.choice.specs.Choice.{same};
+ghost use Prim.Native.Nat.{_<_, _/_, _%_};
+ghost use mathlib.Core.Bool.{false};
+ghost use Rattle.choice.specs.Choice.{pick, same};
 ghost use Rattle.frame.specs.Control.{serviceNumber, serviceOf, codeNumber, codeOf, typeNumber, typeOf, controlOf};
 ghost use Rattle.frame.specs.Control.{bit as Control·bit, fc as Control·fc, counted as Control·counted, lawful as Control·lawful, listed as Control·listed, sdn as Control·sdn};
 ghost use Rattle.frame.specs.Format.{fcs as Format·fcs, misdirected as Format·misdirected};
@@ -252,19 +253,31 @@ pub fn fc(c: Control) -> u8
     }
 }
 
+fn request_of(n: u8) -> Control
+    ensures { λ r. ⌜ r ≡ Control.Request (serviceOf (n % 16)) (same (n / 32 % 2) 1) (same (n / 16 % 2) 1) ⌝ }
+{
+    let service = service_of(n % 16);
+    let fcb = one(n / 32 % 2);
+    let fcv = one(n / 16 % 2);
+    Control::Request { service, fcb, fcv }
+}
+
+fn reply_of(n: u8) -> Control
+    ensures { λ r. ⌜ r ≡ Control.Reply (typeOf (n / 16 % 4)) (codeOf (n % 16)) ⌝ }
+{
+    let kind = type_of(n / 16 % 4);
+    let code = code_of(n % 16);
+    Control::Reply { kind, code }
+}
+
 // The control that an FC octet is read as.
 pub fn control_of(n: u8) -> Control
     ensures { λ r. ⌜ r ≡ controlOf n ⌝ }
 {
     if n / 64 % 2 == 1 {
-        let service = service_of(n % 16);
-        let fcb = one(n / 32 % 2);
-        let fcv = one(n / 16 % 2);
-        return Control::Request { service, fcb, fcv };
+        return request_of(n);
     }
-    let kind = type_of(n / 16 % 4);
-    let code = code_of(n % 16);
-    Control::Reply { kind, code }
+    reply_of(n)
 }
 
 // SDA and SRD are counted by FCB and FCV, and nothing else.
@@ -285,7 +298,7 @@ fn counted(s: Service) -> bool
 }
 
 // FCB and FCV are 0 but in a counted request.
-fn lawful(c: Control) -> bool
+pub fn lawful(c: Control) -> bool
     ensures { λ r. ⌜ r ≡ Control·lawful c ⌝ }
 {
     match c {
@@ -309,15 +322,22 @@ fn lawful_request(service: Service, fcb: bool, fcv: bool) -> bool
     true
 }
 
+// Whether an octet is the FC of a control, and that control is lawful.
+pub fn named(c: Control, n: u8) -> bool
+    ensures { λ r. ⌜ r ≡ pick (same (Control·fc c) n) (Control·lawful c) false ⌝ }
+{
+    if fc(c) == n {
+        return lawful(c);
+    }
+    false
+}
+
 // Whether an octet is an FC that the standard lists.
 pub fn listed(n: u8) -> bool
     ensures { λ r. ⌜ r ≡ Control·listed n ⌝ }
 {
     let c = control_of(n);
-    if fc(c) == n {
-        return lawful(c);
-    }
-    false
+    named(c, n)
 }
 
 // Whether an FC octet is an SDN, low or high.

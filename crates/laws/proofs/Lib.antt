@@ -1,5 +1,4 @@
 pub mod Cases
-pub mod Control
 pub mod Body
 pub mod Framed
 pub mod Accepted

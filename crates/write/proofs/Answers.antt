@@ -13,11 +13,12 @@ use Rattle.frame.specs.declared.Fields.the-variants.{Frame}
 use Rattle.frame.specs.declared.Written.{Written}
 use Rattle.frame.specs.declared.Written.the-variants.{Refused, Count}
 use Rattle.frame.specs.Control.{fc, listed}
-use Rattle.frame.specs.Format.{unit, body, sd1, sd2, framed, octets, outside, misdirected}
+use Rattle.frame.specs.Format.{unit, body, framed, octets, outside, misdirected}
 use Rattle.frame.specs.Format.{unwritable, unwritableFrame, refused, written, left}
 use Rattle.laid.specs.Laid.{laid}
 use Rattle.laid.proofs.Laws.{laid-start}
-use Rattle.write.proofs.Lengths.{length-body, length-sd1, length-sd2}
+use Rattle.write.proofs.Lengths.{length-body}
+use Rattle.write.proofs.Frame.{start, length-framed}
 
 -- ---- the answer r and the output left behind for a frame f with the data x and an output o
 abbrev pub Answered : Fields → List ℕ → List ℕ → Written → List ℕ → Type 0
@@ -75,20 +76,11 @@ module _ (h : Head) (x : List ℕ) {n r : ℕ} (e : n ≡ length (unit h x)) (a 
   unfolding unwritable
   frame-refused = rw (← e) a
 
-  pub writes-sd1 : r ≡ 0 → n ≡ 0 → Writes (Frame h) x (sd1 (body h x)) 6
-  unfolding octets framed
-  writes-sd1 z q =
+  pub writes-frame : r ≡ 0 → Writes (Frame h) x (framed (body h x)) (length (start (n + 3)) + (n + 5))
+  unfolding octets
+  writes-frame z =
       record {
         writable = sym frame-refused ∙ z;
-        octets = sym (if-same _ (omega (arith, length-body h x)) refl);
-        count = omega (arith, length-sd1 (body h x), length-body h x);
-      }
-
-  pub writes-sd2 : r ≡ 0 → (n ≡ 0 → ⊥) → Writes (Frame h) x (sd2 (body h x)) (n + 9)
-  unfolding octets framed
-  writes-sd2 z q =
-      record {
-        writable = sym frame-refused ∙ z;
-        octets = sym (unless-same _ (λ k. q (omega (arith, length-body h x))) refl);
-        count = omega (arith, length-sd2 (body h x), length-body h x);
+        octets = refl;
+        count = length-framed (body h x) n (omega (arith, length-body h x));
       }

@@ -1,15 +1,18 @@
--- The stores of a frame: two in a row, three and a piece behind them, and a whole frame with its closing. Assumes nothing.
-use Prim.Native.Nat.{ℕ, _+_, _≤_}
-use mathlib.Core.Path.{_≡_, refl, sym, _∙_}
+-- The stores of a frame: two in a row, three and a piece behind them, and a whole frame: how it is laid, and how long it
+-- is. Assumes nothing.
+use Prim.Native.Nat.{ℕ, zero, suc, _+_, _≤_}
+use mathlib.Core.Bool.{Bool, true, false}
+use mathlib.Core.Path.{_≡_, refl, sym, ap, _∙_}
 use mathlib.Core.List.{List, [], _∷_, _++_}
 use native.Mathlib.Omega.{arith}
-use native.Mathlib.Nat.{zero-add}
 use native.Mathlib.Numerals.{add-one, add-two}
-use lib.ListN.{length, take, drop, set}
-use lib.Seq.{length-take-le, drop-at, take-append-seam, sets, length-sets}
-use Rattle.frame.specs.Format.{closing}
-use Rattle.laid.specs.Laid.{laid}
-use Rattle.laid.proofs.Laws.{laid-sets, laid-laid, laid-behind}
+use lib.ListN.{length, take, drop, set, length-append}
+use lib.Seq.{length-take-le, drop-at, take-append-seam}
+use Rattle.choice.specs.Choice.{pick, same}
+use Rattle.choice.proofs.Rules.{same-false}
+use Rattle.frame.specs.Format.{SD1, SD2, sd1, sd2, closing, framed}
+use Rattle.laid.specs.Laid.{laid, Lays}
+use Rattle.laid.proofs.Laws.{laid-sets, laid-laid, laid-behind, length-laid}
 
 -- two stores, and a piece behind three
 pub laid-two : (l : List ℕ) (i a b : ℕ) → i + 2 ≤ length l → set (set l i a) (i + 1) b ≡ laid l i (a ∷ (b ∷ []))
@@ -32,12 +35,36 @@ laid-closed : (l : List ℕ) (i n : ℕ) (b : List ℕ) → i + n ≤ length l �
     → laid (laid l i b) (i + n) (closing (take n (drop i (laid l i b)))) ≡ laid l i (b ++ closing b)
 laid-closed l i n b h e = rw (← e, laid-part l i b (omega arith)) (laid-laid l i b (closing b) (omega arith))
 
--- a frame: the start octets s, then the body, then its closing
-pub laid-frame : (l s b m : List ℕ) (n : ℕ) → length s + n ≤ length l → length b ≡ n
-    → m ≡ laid (sets l 0 s) (length s) b
-    → laid m (length s + n) (closing (take n (drop (length s) m))) ≡ laid l 0 (s ++ (b ++ closing b))
-laid-frame l s b m n h e f =
-    let started : sets l 0 s ≡ laid l 0 s = laid-sets l 0 s (omega arith) in
+-- ---- a frame: the start octets of a body of n octets, then the body, then its closing
+abbrev pub start : ℕ → List ℕ
+start n = pick (same n 3) (SD1 ∷ []) (SD2 ∷ (n ∷ (n ∷ (SD2 ∷ []))))
+
+pick-append : (t : Bool) (s r w : List ℕ) → pick t (s ++ w) (r ++ w) ≡ pick t s r ++ w
+unfolding pick
+pick-append true s r w = refl
+pick-append false s r w = refl
+
+framed-start : (b : List ℕ) → framed b ≡ start (length b) ++ (b ++ closing b)
+unfolding framed sd1 sd2
+framed-start b = pick-append (same (length b) 3) _ _ (b ++ closing b)
+
+pub laid-frame : {l m k : List ℕ} {at : ℕ} (b : List ℕ) (n : ℕ) → at + n ≤ length l → length b ≡ n → Lays l 0 (start n) 4 at m
+    → k ≡ laid m at b → laid k (at + n) (closing (take n (drop at k))) ≡ laid l 0 (framed b)
+laid-frame {l} {m} {k} {at} b n h e s f =
+    let fits : 0 + length (start n) ≤ length l = omega (arith, s .place) in
+    let kept : length m ≡ length l = ap length (s .left) ∙ length-laid l 0 (start n) fits in
     rw f
-    (laid-closed (sets l 0 s) (length s) n b (rw (length-sets l 0 s) h) e
-    ∙ laid-behind l (sets l 0 s) 0 (length s) s (b ++ closing b) (omega arith) (sym (zero-add (length s))) started)
+    (laid-closed m at n b (omega arith) e
+    ∙ laid-behind l m 0 at (start n) (b ++ closing b) fits (s .place) (s .left)
+    ∙ ap (laid l 0) (rw (← e) (sym (framed-start b))))
+
+-- how long it is, of n octets behind the first three of its body
+pub length-framed : (b : List ℕ) (n : ℕ) → length b ≡ n + 3 → length (framed b) ≡ length (start (n + 3)) + (n + 5)
+unfolding closing
+length-framed b n e = rw (framed-start b, e) (simp length-append (omega arith))
+
+pub length-start : (n : ℕ) → pick (same n 0) 6 (n + 9) ≡ length (start (n + 3)) + (n + 5)
+unfolding pick same
+length-start zero = refl
+length-start (suc n) =
+    rw (same-false {a = suc n} {b = 0} (λ q. omega arith), same-false {a = suc n + 3} {b = 3} (λ q. omega arith)) (omega arith)

@@ -5,7 +5,7 @@ use mathlib.Core.List.{List}
 use native.Mathlib.Omega.{arith}
 use lib.ListN.{length, length-append}
 use Rattle.frame.specs.declared.Head.{Head}
-use Rattle.frame.specs.Format.{extension, unit, body, closing, sd1, sd2}
+use Rattle.frame.specs.Format.{extension, unit, body}
 
 pub length-unit : (h : Head) (x : List ℕ)
     → length (unit h x) ≡ length (extension (h .to)) + length (extension (h .from)) + length x
@@ -15,11 +15,3 @@ length-unit h x = simp length-append (omega arith)
 pub length-body : (h : Head) (x : List ℕ) → length (body h x) ≡ length (unit h x) + 3
 unfolding body
 length-body h x = omega arith
-
-pub length-sd1 : (b : List ℕ) → length (sd1 b) ≡ length b + 3
-unfolding sd1 closing
-length-sd1 b = simp length-append (omega arith)
-
-pub length-sd2 : (b : List ℕ) → length (sd2 b) ≡ length b + 6
-unfolding sd2 closing
-length-sd2 b = simp length-append (omega arith)

@@ -3,12 +3,13 @@
 ghost use mathlib.Core.Path.{_≡_};
 ghost use Prim.Native.Nat.{_+_, _≤_};
 ghost use mathlib.Core.Bool.{true, false};
-ghost use mathlib.Core.List.{[]};
+ghost use mathlib.Core.List.{[], _∷_};
 ghost use lib.ListN.{length, take, drop};
-ghost use Rattle.choice.specs.Choice.{pick, less};
-ghost use Rattle.frame.specs.Format.{unit, body, closing, sd1, sd2, unwritableFrame, written, left};
-ghost use Rattle.frame.specs.Format.{extension as Format·extension, addressed as Format·addressed, outside as Format·outside};
-ghost use Rattle.laid.specs.Laid.{laid};
+ghost use Rattle.choice.specs.Choice.{pick, less, same};
+ghost use Rattle.frame.specs.Control.{fc};
+ghost use Rattle.frame.specs.Format.{unit, body, closing, unwritableFrame, written, left};
+ghost use Rattle.frame.specs.Format.{extension as Format·extension, addressed as Format·addressed, outside as Format·outside, SD1 as Format·SD1, SD2 as Format·SD2};
+ghost use Rattle.laid.specs.Laid.{laid, Lays};
 use frame::Access;
 use frame::Address;
 use frame::Fields;
@@ -64,8 +65,9 @@ fn outside(a: Access, most: u8) -> bool
     }
 }
 
-// The refusal of a frame's fields with a unit of that many octets, or 0.
-fn refusal(h: Head, units: usize) -> u8
+// The refusal of a frame's fields and FC with a unit of that many octets, or 0.
+fn refusal(h: Head, control: u8, units: usize) -> u8
+    requires { ⌜ control ≡ fc (h .control) ⌝ }
     ensures { λ r. ⌜ r ≡ unwritableFrame h units ⌝ }
 {
     let destination = h.destination.0;
@@ -73,14 +75,13 @@ fn refusal(h: Head, units: usize) -> u8
     let source = h.source.0;
     let from = h.from;
     let c = h.control;
-    let control = frame::fc(c);
     if 126 < source {
         return 8;
     }
     if 127 < destination {
         return 8;
     }
-    if !frame::listed(control) {
+    if !frame::lawful(c) {
         return 9;
     }
     if outside(to, 63) {
@@ -112,8 +113,7 @@ fn addressed(n: u8, a: Access) -> u8
 // Lays an access point's extension octet, if it has one, and gives the place behind it.
 fn lay_extension(a: Access, out: &mut [u8], at: usize) -> usize
     requires { ⌜ at + length (Format·extension a) ≤ length (now out) ⌝ }
-    ensures { λ r. ⌜ r ≡ at + length (Format·extension a) ⌝ }
-    ensures { λ _. ⌜ now (out .exit) ≡ laid (now (out .entry)) at (Format·extension a) ⌝ }
+    ensures { λ r. ⌜ Lays (now (out .entry)) at (Format·extension a) (length (Format·extension a)) r (now (out .exit)) ⌝ }
 {
     match a {
         Access::None => at,
@@ -133,11 +133,12 @@ fn lay_unit(h: Head, data: &[u8], out: &mut [u8], at: usize)
     let from = h.from;
     let second = lay_extension(to, out, at);
     let third = lay_extension(from, out, second);
-    bytes::copy(data, &mut out[third..]);
+    laid::lay(data, out, third);
 }
 
 // Lays DA SA FC unit.
-fn lay_body(h: Head, data: &[u8], out: &mut [u8], at: usize)
+fn lay_body(h: Head, control: u8, data: &[u8], out: &mut [u8], at: usize)
+    requires { ⌜ control ≡ fc (h .control) ⌝ }
     requires { ⌜ (h .destination .0 ≤ 127) × (h .source .0 ≤ 126) ⌝ }
     requires { ⌜ at + length (body h (now «data»)) ≤ length (now out) ⌝ }
     ensures { λ _. ⌜ now (out .exit) ≡ laid (now (out .entry)) at (body h (now («data» .entry))) ⌝ }
@@ -146,10 +147,9 @@ fn lay_body(h: Head, data: &[u8], out: &mut [u8], at: usize)
     let to = h.to;
     let source = h.source.0;
     let from = h.from;
-    let control = h.control;
     out[at] = addressed(destination, to);
     out[at + 1] = addressed(source, from);
-    out[at + 2] = frame::fc(control);
+    out[at + 2] = control;
     lay_unit(h, data, out, at + 3);
 }
 
@@ -164,31 +164,31 @@ fn close(out: &mut [u8], at: usize, n: usize)
     out[end + 1] = ED;
 }
 
-// 10 DA SA FC FCS 16
-fn lay_sd1(h: Head, data: &[u8], out: &mut [u8])
-    requires { ⌜ (h .destination .0 ≤ 127) × (h .source .0 ≤ 126) ⌝ }
-    requires { ⌜ length (body h (now «data»)) ≡ 3 ⌝ }
-    requires { ⌜ 6 ≤ length (now out) ⌝ }
-    ensures { λ _. ⌜ now (out .exit) ≡ laid (now (out .entry)) 0 (sd1 (body h (now («data» .entry)))) ⌝ }
+// Lays the start octets of a frame whose body has n octets, and gives the place behind them.
+fn lay_start(out: &mut [u8], n: u8) -> usize
+    requires { ⌜ 4 ≤ length (now out) ⌝ }
+    ensures { λ r. ⌜ Lays (now (out .entry)) 0 (pick (same n 3) (Format·SD1 ∷ []) (Format·SD2 ∷ (n ∷ (n ∷ (Format·SD2 ∷ []))))) 4 r (now (out .exit)) ⌝ }
 {
-    out[0] = SD1;
-    lay_body(h, data, out, 1);
-    close(out, 1, 3);
-}
-
-// 68 LE LE 68 DA SA FC unit FCS 16, of a body of n octets
-fn lay_sd2(h: Head, data: &[u8], out: &mut [u8], n: u8)
-    requires { ⌜ (h .destination .0 ≤ 127) × (h .source .0 ≤ 126) ⌝ }
-    requires { ⌜ length (body h (now «data»)) ≡ n ⌝ }
-    requires { ⌜ n + 6 ≤ length (now out) ⌝ }
-    ensures { λ _. ⌜ now (out .exit) ≡ laid (now (out .entry)) 0 (sd2 (body h (now («data» .entry)))) ⌝ }
-{
+    if n == 3 {
+        out[0] = SD1;
+        return 1;
+    }
     out[0] = SD2;
     out[1] = n;
     out[2] = n;
     out[3] = SD2;
-    lay_body(h, data, out, 4);
-    close(out, 4, n as usize);
+    4
+}
+
+// How many octets a frame has whose unit has n.
+fn octets(n: usize) -> usize
+    requires { ⌜ n ≤ 246 ⌝ }
+    ensures { λ r. ⌜ r ≡ pick (same n 0) 6 (n + 9) ⌝ }
+{
+    if n == 0 {
+        return 6;
+    }
+    n + 9
 }
 
 // A frame with a control octet: SD1 for an empty unit, else SD2.
@@ -197,22 +197,19 @@ pub fn write_frame(h: Head, data: &[u8], out: &mut [u8]) -> Written
     ensures { λ _. ⌜ now (out .exit) ≡ left (Fields.Frame h) (now («data» .entry)) (now (out .entry)) ⌝ }
 {
     let n = units(h, data);
-    let refused = refusal(h, n);
+    let c = h.control;
+    let control = frame::fc(c);
+    let refused = refusal(h, control, n);
     if refused != 0 {
         return Written::Refused(refused);
     }
-    if n == 0 {
-        if out.len() < 6 {
-            return Written::Refused(13);
-        }
-        lay_sd1(h, data, out);
-        return Written::Count(6);
-    }
-    let count = n + 9;
+    let count = octets(n);
     if out.len() < count {
         return Written::Refused(13);
     }
-    lay_sd2(h, data, out, (n + 3) as u8);
+    let at = lay_start(out, (n + 3) as u8);
+    lay_body(h, control, data, out, at);
+    close(out, at, n + 3);
     Written::Count(count)
 }
 

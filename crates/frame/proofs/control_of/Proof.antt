@@ -1,4 +1,4 @@
--- `frame::control_of` meets its contract: a request or a reply by bit 0x40, each part by its own function.
+-- `frame::control_of` meets its contract: a request or a reply by bit 0x40.
 -- Assumes nothing.
 use Rattle.choice.proofs.Rules.{if-same, unless-same}
 use Rattle.frame.specs.Control.{controlOf}
@@ -8,20 +8,11 @@ use Rattle.frame.proofs.control_of.Tie as tie
 
 returns : tie.Need-returns
 unfolding controlOf
-returns c = if-same _ (c .before .before .before .if1 .taken) (cc)
+returns c = if-same _ (c .before .if1 .taken) (c .request-of .ensures)
 
 returns-2 : tie.Need-returns-2
 unfolding controlOf
-returns-2 c = unless-same _ (c .before .before .if1 .left) (cc)
+returns-2 c = unless-same _ (c .before .if1 .left) (c .reply-of .ensures)
 
 pub control-of-spec : {M : Type 1} → statement M
-control-of-spec =
-    tie.close
-    (tie.spec
-    (λ c κs. search needs)
-    (λ c κs. search needs)
-    (λ c κs. search needs)
-    returns
-    (λ c κs. search needs)
-    (λ c κs. search needs)
-    returns-2)
+control-of-spec = tie.close (tie.spec (λ c κs. search needs) returns (λ c κs. search needs) returns-2)

@@ -21,10 +21,10 @@ slice-write-out-2 : tie.Need-slice-write-out-2
 slice-write-out-2 c = simp length-set (omega (arith, room (c .before .before .before .before)))
 
 slice-write-out-3 : tie.Need-slice-write-out-3
-slice-write-out-3 c = simp length-set (omega (arith, room (c .before .before .before .before .before)))
+slice-write-out-3 c = simp length-set (omega (arith, room (c .before .before .before .before)))
 
 lay-unit-requires : tie.Need-lay-unit-requires
-lay-unit-requires c κs = simp length-set (omega (arith, room (c .before .before .before .before .before .before)))
+lay-unit-requires c κs = simp length-set (omega (arith, room (c .before .before .before .before .before)))
 
 same-length : tie.Need-same-length
 same-length c = simp length-set at (c .before .before .lay-unit .kept .1 .1 .0)
@@ -32,7 +32,7 @@ same-length c = simp length-set at (c .before .before .lay-unit .kept .1 .1 .0)
 returns : tie.Need-returns
 unfolding body
 returns c =
-    let s = c .before .before .before .before .before .before .before .before .before in
+    let s = c .before .before .before .before .before .before .before .before in
     cc (laid-three (s .args .out .now) (s .args .at) _ _ _ _ (omega (arith, room s)))
 
 pub lay-body-spec : {M : Type 1} → statement M
@@ -44,7 +44,6 @@ lay-body-spec =
     (λ c κs. search needs)
     (λ c. search needs)
     slice-write-out-2
-    (λ c κs. search needs)
     (λ c. search needs)
     slice-write-out-3
     (λ c. search needs)

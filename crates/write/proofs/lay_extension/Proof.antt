@@ -1,10 +1,10 @@
 -- `write::lay_extension` meets its contract: nothing is laid, or the point is stored.
 -- Assumes nothing.
-use mathlib.Core.Path.{sym}
+use mathlib.Core.Path.{refl, sym}
 use mathlib.Core.List.{[], _∷_}
 use native.Mathlib.Omega.{arith}
 use Rattle.frame.specs.Format.{extension}
-use Rattle.laid.proofs.Laws.{laid-nil, laid-sets}
+use Rattle.laid.proofs.Laws.{laid-nil, lays-sets}
 use borrow.Author.Needs.{needs}
 use Rattle.write.proofs.lay_extension.Statement.{statement}
 use Rattle.write.proofs.lay_extension.Tie as tie
@@ -15,14 +15,15 @@ slice-write-out c = omega (arith, rw (c .before .a .given .1) at (c .before .bef
 
 returns : tie.Need-returns
 unfolding extension
-returns c = rw (c .enum-told .given .1) (omega arith, sym (laid-nil _ _))
+returns c =
+    rw (c .enum-told .given .1) (record { place = omega arith; left = sym (laid-nil _ _); near = omega arith })
 
 returns-2 : tie.Need-returns-2
 unfolding extension
 returns-2 c =
     let s = c .before .before .before in
     let e = c .before .a .given .1 in
-    rw e (omega arith, laid-sets (s .args .out .now) (s .args .at) (_ ∷ []) (rw e at (s .pre)))
+    rw e (lays-sets (s .args .out .now) (s .args .at) (_ ∷ []) 1 _ _ (rw e at (s .pre)) (omega arith) refl refl)
 
 pub lay-extension-spec : {M : Type 1} → statement M
 lay-extension-spec =

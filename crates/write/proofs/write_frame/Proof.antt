@@ -1,78 +1,82 @@
--- `write::write_frame` meets its contract: a refusal by its own function, else the form that the unit's count picks.
+-- `write::write_frame` meets its contract: a refusal by its own function, else the start, the body and the closing.
 -- Assumes nothing.
 use Prim.Native.Nat.{ℕ, _+_}
+use mathlib.Core.Path.{_≡_, _∙_}
 use mathlib.Core.List.{List}
+use lib.ListN.{length}
 use native.Mathlib.Omega.{arith}
 use Rattle.frame.specs.declared.Head.{Head}
 use Rattle.frame.specs.declared.Fields.the-variants.{Frame}
-use Rattle.frame.specs.Format.{body, sd1, sd2}
+use Rattle.frame.specs.Format.{body, framed}
 use Rattle.write.proofs.Lengths.{length-body}
-use Rattle.write.proofs.Answers.{unwritten, Writes, short, wrote, Writable, writable, frame-refused, writes-sd1, writes-sd2}
+use Rattle.write.proofs.Frame.{start, length-start, laid-frame}
+use Rattle.write.proofs.Answers.{unwritten, Writes, short, wrote, Writable, writable, frame-refused, writes-frame}
 use borrow.Author.Needs.{needs}
 use Rattle.write.proofs.write_frame.Statement.{statement}
 use Rattle.write.proofs.write_frame.Tie as tie
 
 -- the fields and the data, from behind the refusal
 abbrev head : tie.After-refusal → Head
-head r = r .before .before .before .before .args .h
+head r = r .before .before .before .before .before .args .h
 
 abbrev content : tie.After-refusal → List ℕ
-content r = r .before .before .before .before .args .«data» .now
+content r = r .before .before .before .before .before .args .«data» .now
 
--- what is known where nothing refused it: the fields' bounds, and with an empty unit or without, the octets
-fields : (p : tie.Else1) → Writable (head (p .before)) (p .before .before .units .result)
+abbrev size : tie.After-refusal → ℕ
+size r = r .before .before .units .result
+
+-- what is known where nothing refused it: the fields' bounds, how many octets, and which
+fields : (p : tie.Else1) → Writable (head (p .before)) (size (p .before))
 fields p = writable (head (p .before)) (p .before .refusal .ensures) (p .if1 .left)
 
-empty : (p : tie.Then2)
-    → let r = p .before .before in
-    Writes (Frame (head r)) (content r) (sd1 (body (head r) (content r))) 6
-empty p =
-    let r = p .before .before in
-    writes-sd1 (head r) (content r) (r .before .units .ensures) (r .refusal .ensures) (p .before .if1 .left) (p .if2 .taken)
+long : (r : tie.After-refusal) → length (body (head r) (content r)) ≡ size r + 3
+long r = omega (arith, length-body (head r) (content r))
 
-filled : (p : tie.Else2)
+count : (p : tie.After-octets)
+    → let n = size (p .before .before) in
+    p .octets .result ≡ length (start (n + 3)) + (n + 5)
+count p = p .octets .ensures ∙ length-start (size (p .before .before))
+
+writes : (p : tie.After-octets)
     → let r = p .before .before in
-    Writes (Frame (head r)) (content r) (sd2 (body (head r) (content r))) (r .before .units .result + 9)
-filled p =
+    Writes (Frame (head r)) (content r) (framed (body (head r) (content r))) (p .octets .result)
+writes p =
     let r = p .before .before in
-    writes-sd2 (head r) (content r) (r .before .units .ensures) (r .refusal .ensures) (p .before .if1 .left) (p .if2 .left)
+    rw (count p)
+    (writes-frame (head r) (content r) (r .before .before .units .ensures) (r .refusal .ensures) (p .before .if1 .left))
 
 returns : tie.Need-returns
 returns c =
     let r = c .before in
-    unwritten _ _ (frame-refused (head r) (content r) (r .before .units .ensures) (r .refusal .ensures)) (c .if1 .taken)
+    unwritten _ _ (frame-refused (head r) (content r) (r .before .before .units .ensures) (r .refusal .ensures)) (c .if1 .taken)
 
 returns-2 : tie.Need-returns-2
-returns-2 c = short (empty (c .before)) _ (omega arith)
+returns-2 c = short (writes (c .before)) _ (omega arith)
 
-lay-sd1-requires : tie.Need-lay-sd1-requires
-lay-sd1-requires c κs =
-    let p = c .before .before .before in
-    let w = fields p in
-    ((w .destination, w .source), (omega (arith, length-body (head (p .before)) (content (p .before))), omega arith))
+lay-body-requires : tie.Need-lay-body-requires
+lay-body-requires c κs =
+    let q = c .before .before .before in
+    let p = q .before .before .before in
+    let r = p .before .before in
+    let w = fields (p .before) in
+    (r .before .fc .ensures .0, ((w .destination, w .source), omega (arith, count p, long r, q .lay-start .ensures .place)))
+
+close-requires : tie.Need-close-requires
+close-requires c κs =
+    let q = c .before .before .before .before .before .before .before in
+    let p = q .before .before .before in
+    omega (arith, count p, long (p .before .before), q .lay-start .ensures .place)
 
 returns-3 : tie.Need-returns-3
 returns-3 c =
-    wrote (empty (c .before .before .before .before .before)) _ (omega arith) (c .before .before .lay-sd1 .ensures)
-
-add-count : tie.Need-add-count
-add-count c = omega (arith, fields (c .before) .units)
-
-returns-4 : tie.Need-returns-4
-returns-4 c = short (filled (c .before)) _ (omega arith)
-
-cast-lay-sd2 : tie.Need-cast-lay-sd2
-cast-lay-sd2 c = omega (arith, fields (c .before .before .before) .units)
-
-lay-sd2-requires : tie.Need-lay-sd2-requires
-lay-sd2-requires c κs =
-    let p = c .before .before .before in
-    let w = fields p in
-    ((w .destination, w .source), (omega (arith, length-body (head (p .before)) (content (p .before))), omega arith))
-
-returns-5 : tie.Need-returns-5
-returns-5 c =
-    wrote (filled (c .before .before .before .before .before)) _ (omega arith) (c .before .before .lay-sd2 .ensures)
+    let b = c .before .before .before .before .before .before in
+    let q = b .before .before .before .before in
+    let p = q .before .before .before in
+    let r = p .before .before in
+    let s = q .lay-start .ensures in
+    wrote (writes p) _ (omega arith)
+    (c .before .before .close .ensures
+    ∙ laid-frame (body (head r) (content r)) (size r + 3) (omega (arith, count p, s .place)) (long r) s (b .lay-body .ensures))
 
 pub write-frame-spec : {M : Type 1} → statement M
 write-frame-spec =
@@ -80,15 +84,15 @@ write-frame-spec =
     (tie.spec
     (λ c κs. search needs)
     (λ c κs. search needs)
+    (λ c κs. search needs)
     returns
+    (λ c κs. fields c .units)
     returns-2
-    lay-sd1-requires
+    (λ c. omega (arith, fields (c .before .before .before) .units))
+    (λ c. omega (arith, fields (c .before .before .before) .units))
+    (λ c κs. omega (arith, count (c .before .before)))
+    lay-body-requires
+    (λ c. omega (arith, fields (c .before .before .before .before .before .before .before .before .before .before .before) .units))
+    close-requires
     (λ c. search needs)
-    returns-3
-    add-count
-    returns-4
-    (λ c. search needs)
-    cast-lay-sd2
-    lay-sd2-requires
-    (λ c. search needs)
-    returns-5)
+    returns-3)

@@ -5,16 +5,15 @@ use mathlib.Core.Path.{_≡_, refl, _∙_}
 use native.Mathlib.Omega.{arith}
 use Rattle.choice.specs.Choice.{pick, same}
 use Rattle.choice.proofs.Rules.{same-true, same-false, true-same, pick-true, pick-false}
 use Rattle.frame.specs.declared.Service.{Service}
 use Rattle.frame.specs.declared.Service.the-variants.{SdaLow, SdnLow, SdaHigh, SdnHigh, Status, SrdLow, SrdHigh, Ident, Lsap}
 use Rattle.frame.specs.declared.Code.{Code}
 use Rattle.frame.specs.declared.Code.the-variants.{Ok, Ue, Rr, Rs, Dl, Nr, Dh, Rdl, Rdh}
 use Rattle.frame.specs.declared.Kind.{Kind}
 use Rattle.frame.specs.declared.Kind.the-variants.{Slave, NotReady, Ready, InRing}
 use Rattle.frame.specs.declared.Control.{Control}
 use Rattle.frame.specs.declared.Control.the-variants.{Request, Reply}
-use Rattle.frame.specs.Control.{serviceNumber, serviceOf, codeNumber, codeOf, typeNumber, typeOf, bit, fc, controlOf, listed}
-use Rattle.laws.proofs.Cases.{taken, false-is-true}
+use Rattle.frame.specs.Control.{serviceNumber, serviceOf, codeNumber, codeOf, typeNumber, typeOf, bit, fc, controlOf, lawful, listed}
 
 -- ---- each part of FC is that of its number
 service-numbered : (s : Service) → (serviceOf (serviceNumber s) ≡ s) × (serviceNumber s < 16)
@@ -83,7 +82,18 @@ control-again (Reply k c) =
     let d = reply-digits (typeNumber k) (codeNumber c) (h .1) (g .1) in
     pick-false _ _ (same-false (omega arith)) ∙ rw (d .1, d .2, h .0, g .0)
 
--- an octet that is listed is that of the control that it is read as
+-- ---- which octets are listed
+-- that of a lawful control
+pub listed-fc : (c : Control) → listed (fc c) ≡ lawful c
+unfolding listed
+listed-fc c = rw (control-again c) (pick-true _ _ (same-true refl))
+
+-- and each is that of the control that it is read as
+first : (b d : Bool) → pick b d false ≡ true → b ≡ true
+unfolding pick
+first true d e = refl
+first false d e = e
+
 pub listed-again : (n : ℕ) → listed n ≡ true → fc (controlOf n) ≡ n
 unfolding listed
-listed-again n h = true-same _ _ ((taken _ _ _ false-is-true h) .0)
+listed-again n h = true-same _ _ (first _ _ h)
