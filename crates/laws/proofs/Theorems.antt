@@ -13,11 +13,11 @@ use Rattle.frame.specs.declared.Fields.the-variants.{Token, Short, Frame}
 use Rattle.frame.specs.declared.Answer.the-variants.{Read}
 use Rattle.frame.specs.Format.{octets, unit, body, sd2, unwritable, unwritableToken, SD2, SD3}
 use Rattle.frame.specs.Reading.{read, plain, refusal, shown, octet}
-use Rattle.laws.specs.Flip.{Octets, carried, flip, Summed}
+use Rattle.laws.specs.Flip.{Octets, carried, flip, Summed, Twins}
 use Rattle.laws.specs.Table.{table}
 use Rattle.laws.proofs.Body.{writable, head-body, data-body, sound-body}
 use Rattle.laws.proofs.Framed.{read-token, read-short, reads-framed}
-use Rattle.laws.proofs.Accepted.{accepted, accepted-writable, accepted-carried, accepted-written, accepted-SD3}
+use Rattle.laws.proofs.Accepted.{bodyOf, accepted, accepted-writable, accepted-carried, accepted-written, accepted-SD3}
 use Rattle.laws.proofs.Flips.{accepted-flip}
 use Rattle.laws.proofs.Table.{table-read}
 
@@ -65,15 +65,18 @@ read-writable s f p e = accepted-writable (accepted s f p e)
 -- (d) and so no two strings but an SD3 and its SD2 twin read as the same fields and data
 pub read-once : (s t : List ℕ) (f : Fields) (p q : Part) → Octets s → Octets t
     → read s ≡ Read f p → read t ≡ Read f q → shown s p ≡ shown t q
-    → (s ≡ t) ⊎ (((octet s 0 ≡ SD3) × (octet t 0 ≡ SD2)) ⊎ ((octet s 0 ≡ SD2) × (octet t 0 ≡ SD3)))
+    → (s ≡ t) ⊎ (Twins s t ⊎ Twins t s)
 read-once s t f p q os ot es et e = by (ℕ-discrete (octet s 0) SD3) (ℕ-discrete (octet t 0) SD3)
   where
-    by : Dec (octet s 0 ≡ SD3) → Dec (octet t 0 ≡ SD3)
-        → (s ≡ t) ⊎ (((octet s 0 ≡ SD3) × (octet t 0 ≡ SD2)) ⊎ ((octet s 0 ≡ SD2) × (octet t 0 ≡ SD3)))
+    by : Dec (octet s 0 ≡ SD3) → Dec (octet t 0 ≡ SD3) → (s ≡ t) ⊎ (Twins s t ⊎ Twins t s)
     by (yes m) (yes n) =
         inl (cc (accepted-SD3 (accepted s f p es) os m .0, accepted-SD3 (accepted t f q et) ot n .0))
-    by (yes m) (no n) = inr (inl (m, cc (written-read t f q ot et n, written-twin s f p os es m .0)))
-    by (no m) (yes n) = inr (inr (cc (written-read s f p os es m, written-twin t f q ot et n .0), n))
+    by (yes m) (no n) =
+        let a = accepted-SD3 (accepted s f p es) os m in
+        inr (inl (record { body = bodyOf f (shown s p); third = a .0; second = cc (written-read t f q ot et n, a .1) }))
+    by (no m) (yes n) =
+        let a = accepted-SD3 (accepted t f q et) ot n in
+        inr (inr (record { body = bodyOf f (shown t q); third = a .0; second = cc (written-read s f p os es m, a .1) }))
     by (no m) (no n) = inl (cc (written-read s f p os es m, written-read t f q ot et n))
 
 -- (e) each public function's promise is an equation of its result, and one of each buffer that it was lent, with a

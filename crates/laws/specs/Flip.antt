@@ -1,11 +1,12 @@
 -- What the theorems about frames say beside the frame table's own words. Assumes nothing.
 use Prim.Native.Nat.{ℕ, _+_, _-_, _/_, _%_, _^_, _<_}
 use mathlib.Core.List.{List, []}
+use mathlib.Core.Path.{_≡_}
 use lib.ListN.{getD, set}
 use Rattle.choice.specs.Choice.{pick, same}
 use Rattle.frame.specs.declared.Fields.{Fields}
 use Rattle.frame.specs.declared.Fields.the-variants.{Token, Short, Frame}
-use Rattle.frame.specs.Format.{SD1, SD2, SD3}
+use Rattle.frame.specs.Format.{SD1, SD2, SD3, sd2, sd3}
 use Rattle.frame.specs.Reading.{octet}
 
 -- each element of the string is an octet
@@ -31,3 +32,9 @@ pub data Summed : ℕ → Type 0 where
   of-SD1 : Summed SD1
   of-SD2 : Summed SD2
   of-SD3 : Summed SD3
+
+-- an SD3 and the SD2 with the same DA SA FC unit
+pub record Twins (s t : List ℕ) : Type 0 where
+  pub body : List ℕ
+  pub third : s ≡ sd3 body
+  pub second : t ≡ sd2 body
