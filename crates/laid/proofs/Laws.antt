@@ -91,3 +91,8 @@ lays-within b h x = record { place = x .place; left = x .left; near = omega (ari
 -- stores in a row are a step
 pub lays-sets : (l : List ℕ) (at : ℕ) (u : List ℕ) (a r : ℕ) (m : List ℕ) → at + length u ≤ length l → length u ≤ a → r ≡ at + length u → m ≡ sets l at u → Lays l at u a r m
 lays-sets l at u a r m h n p e = record { place = p; left = e ∙ laid-sets l at u h; near = n }
+
+-- three steps in a row
+pub lays-three : {l u m w n x o : List ℕ} {at a b c r q p : ℕ} → at + (a + (b + c)) ≤ length l
+    → Lays l at u a r m → Lays m r w b q n → Lays n q x c p o → Lays l at (u ++ (w ++ x)) (a + (b + c)) p o
+lays-three {b = b} {c = c} h x y z = lays-then h x (lays-then (lays-room (b + c) h x) y z)

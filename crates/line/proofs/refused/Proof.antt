@@ -2,10 +2,8 @@
 -- Assumes nothing.
 use Rattle.line.specs.Line.{told}
 use borrow.Author.Needs.{needs}
-use Prim.Native.Nat.{_+_, _≤_}
 use native.Mathlib.Omega.{arith}
-use lib.ListN.{length}
-use Rattle.laid.proofs.Laws.{lays-room, lays-then, lays-within}
+use Rattle.laid.proofs.Laws.{lays-three, lays-within}
 use Rattle.line.proofs.refused.Statement.{statement}
 use Rattle.line.proofs.refused.Tie as tie
 
@@ -16,12 +14,7 @@ returns c =
     let at3 = at4 .before .before .before .before .before in
     let at2 = at3 .before .before .before .before in
     let start = at2 .before .before .before .before in
-    let x1 = at2 .lay .ensures in
-    let x2 = at3 .number .ensures in
-    let x3 = at4 .lay2 .ensures in
-    let h1 : start .args .at + (5 + 5) ≤ length (start .args .out .now) = omega (arith, start .pre) in
-    let h2 = lays-room 5 h1 x1 in
-    lays-within 30 (omega arith) (lays-then h1 x1 (lays-then h2 x2 x3))
+    lays-within 30 (omega arith) (lays-three (omega (arith, start .pre)) (at2 .lay .ensures) (at3 .number .ensures) (at4 .lay2 .ensures))
 
 pub refused-spec : {M : Type 1} → statement M
 refused-spec =
