@@ -15,7 +15,7 @@ use Rattle.frame.specs.declared.Fields.the-variants.{Token, Short, Frame}
 use Rattle.frame.specs.declared.Answer.the-variants.{Read}
 use Rattle.frame.specs.Format.{SD1, SD2, SD3, SD4, SC, closing, sd1, sd2, sd3, body, octets, unwritable, unwritableToken}
 use Rattle.frame.specs.Reading.{octet, part, dataAt, headOf, answer, bodyAnswer, readBody, mismeasured, readSd2, plain, readToken, readShort, read, shown}
-use Rattle.laws.specs.Flip.{Octets, carried}
+use Rattle.laws.specs.Terms.{Octets, carried}
 use Rattle.laws.proofs.Cases.{taken, left, either-way, true-is-false, refused-is-read}
 use Rattle.laws.proofs.Body.{Sound, sound, data-within, writable-read, body-read}
 use Rattle.laws.proofs.Framed.{shown-body, octet-body, framed-three, framed-more}

@@ -17,8 +17,8 @@ use Rattle.frame.specs.declared.Answer.the-variants.{Refused}
 use Rattle.frame.specs.Format.{SD1, SD2, SD3, SD4, SC, ED, sum, fcs, closing, sd1, sd2, sd3}
 use Rattle.frame.specs.Reading.{octet, readBody, mismeasured, read, refusal}
 use Rattle.frame.proofs.Sum.{sum-set}
-use Rattle.laws.specs.Flip.{flipped, flip, Summed}
-use Rattle.laws.specs.Flip.Summed.{of-SD1, of-SD2, of-SD3}
+use Rattle.laws.specs.Terms.{flipped, flip, Summed}
+use Rattle.laws.specs.Terms.Summed.{of-SD1, of-SD2, of-SD3}
 use Rattle.laws.proofs.Cases.{taken, left, both-ways, false-is-true}
 use Rattle.laws.proofs.Framed.{read-parts, read-sd1, read-measured, read-mismeasured, read-sd3}
 use Rattle.laws.proofs.Accepted.{Accepted}

@@ -13,7 +13,7 @@ use Rattle.frame.specs.declared.Fields.the-variants.{Token, Short, Frame}
 use Rattle.frame.specs.declared.Answer.the-variants.{Read}
 use Rattle.frame.specs.Format.{octets, unit, body, sd2, unwritable, unwritableToken, SD2, SD3}
 use Rattle.frame.specs.Reading.{read, plain, refusal, shown, octet}
-use Rattle.laws.specs.Flip.{Octets, carried, flip, Summed, Twins}
+use Rattle.laws.specs.Terms.{Octets, carried, flip, Summed, Twins}
 use Rattle.laws.specs.Table.{table}
 use Rattle.laws.proofs.Body.{writable, head-body, data-body, sound-body}
 use Rattle.laws.proofs.Framed.{read-token, read-short, reads-framed}

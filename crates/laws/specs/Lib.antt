@@ -1,2 +1,2 @@
-pub mod Flip
+pub mod Terms
 pub mod Table
