@@ -7,18 +7,12 @@ ghost use Rattle.capture.specs.Listing.{countOf, lengthOf, bodiesAt, las
 
 const ROOM: usize = 139274;
 
-fn wide(x: u8) -> usize
-    ensures { λ r. ⌜ (r ≡ x) × (r ≤ 255) ⌝ }
-{
-    x as usize
-}
-
 // How many bodies a capture announces.
 fn count_of(s: &[u8]) -> usize
     requires { ⌜ 2 ≤ length (now s) ⌝ }
     ensures { λ r. ⌜ r ≡ countOf (now (s .entry)) ⌝ }
 {
-    256 * wide(s[0]) + wide(s[1])
+    256 * frame::wide(s[0]) + frame::wide(s[1])
 }
 
 // The length of body i.
@@ -27,7 +21,7 @@ fn length_of(s: &[u8], i: usize) -> usize
     ensures { λ r. ⌜ r ≡ lengthOf (now (s .entry)) i ⌝ }
     ensures { λ r. ⌜ r ≤ 255 ⌝ }
 {
-    wide(s[5 * i + 6])
+    frame::wide(s[5 * i + 6])
 }
 
 // Lays the last line of a capture whose bodies end at a place.

@@ -1,7 +1,7 @@
 // The fields of a frame, its control octet FC and its checksum FCS; the definitions of the whole frame table are in
 // specs/. Reading and writing are left to the crates above. Assumes nothing.
 ghost use mathlib.Core.Path.{_≡_};
-ghost use Prim.Native.Nat.{_<_, _/_, _%_};
+ghost use Prim.Native.Nat.{_<_, _≤_, _/_, _%_};
 ghost use mathlib.Core.Bool.{false};
 ghost use Rattle.choice.specs.Choice.{pick, same};
 ghost use Rattle.frame.specs.Control.{serviceNumber, serviceOf, codeNumber, codeOf, typeNumber, typeOf, controlOf};
@@ -364,6 +364,13 @@ pub fn misdirected(address: u8, control: u8) -> bool
         return true;
     }
     false
+}
+
+// An octet as a count or a place.
+pub fn wide(x: u8) -> usize
+    ensures { λ r. ⌜ (r ≡ x) × (r ≤ 255) ⌝ }
+{
+    x as usize
 }
 
 // The checksum of a frame's body.

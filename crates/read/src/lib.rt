@@ -73,12 +73,6 @@ fn mismeasured(le: u8, repeat: u8, fourth: u8) -> bool
     true
 }
 
-fn wide(x: u8) -> usize
-    ensures { λ r. ⌜ r ≡ x ⌝ }
-{
-    x as usize
-}
-
 fn read_token(s: &[u8]) -> Answer
     ensures { λ r. ⌜ r ≡ readToken (now (s .entry)) ⌝ }
 {
@@ -133,7 +127,7 @@ pub fn read(s: &[u8]) -> Answer
             return Answer::Refused(4);
         }
         start = 4;
-        n = wide(le);
+        n = frame::wide(le);
     } else if first == SD3 {
         start = 1;
         n = 11;

@@ -1,11 +1,11 @@
 -- `read::part` meets its contract: past the end there is nothing to take; else the end is count past the start.
 -- Assumes nothing.
 use borrow.Author.Needs.{needs}
-use mathlib.Core.Path.{sym, _∙_}
+use mathlib.Core.Path.{sym, ap, _∙_}
 use native.Mathlib.Nat.{add-sub-cancel-left}
 use native.Mathlib.Omega.{arith}
-use Prim.Native.Nat.{_-_}
-use lib.ListN.{length, drop, length-drop, drop-of-length-le}
+use Prim.Native.Nat.{ℕ, _-_}
+use lib.ListN.{length, take, drop, length-drop, drop-of-length-le}
 use lib.Seq.{take-nil, take-all}
 use Rattle.read.proofs.part.Statement.{statement}
 use Rattle.read.proofs.part.Tie as tie
@@ -22,7 +22,9 @@ returns-2 c =
     take-all (length (a .s .now) - a .start) l (simp length-drop (omega arith)) ∙ sym (take-all (a .count) l (simp length-drop (omega arith)))
 
 returns-3 : tie.Need-returns-3
-returns-3 c = rw (add-sub-cancel-left (c .before .before .before .args .start) (c .before .before .before .args .count))
+returns-3 c =
+    let a = c .before .before .before .args in
+    ap (λ (k : ℕ). take k (drop (a .start) (a .s .now))) (add-sub-cancel-left (a .start) (a .count))
 
 pub part-spec : {M : Type 1} → statement M
 part-spec =
