@@ -54,7 +54,7 @@ fn head_of(b: &[u8]) -> Head
     let second = 3 + extensions(d);
     let to = access_of(b, d, 3);
     let from = access_of(b, s, second);
-    let control = frame::control_of(b[2]);
+    let control = control::control_of(b[2]);
     Head {
         destination: Address(d % 128),
         to,
@@ -117,7 +117,7 @@ fn body_refusal(b: &[u8]) -> u8
     if extended(b) {
         return 8;
     }
-    if !frame::listed(control) {
+    if !control::listed(control) {
         return 9;
     }
     if misnamed(b, d, 3, 63) {

@@ -11,7 +11,7 @@ use Rattle.frame.specs.declared.Answer.{Answer}
 use Rattle.frame.specs.declared.Answer.the-variants.{Refused, Read}
 use Rattle.frame.specs.declared.Written.{Written}
 use Rattle.frame.specs.declared.Written.the-variants.{Refused as WrittenRefused, Count}
-use Rattle.frame.specs.Control.{fc, controlOf, listed}
+use Rattle.control.specs.Control.{fc, controlOf, listed}
 use Rattle.frame.specs.Format.{written, left}
 use Rattle.cihlomet.specs.declared.FlatFrame.{FlatFrame}
 use Rattle.cihlomet.specs.declared.FlatWritten.{FlatWritten}

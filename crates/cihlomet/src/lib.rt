@@ -68,7 +68,7 @@ fn flat_head(h: Head, p: Part) -> FlatFrame
         to: point_of(to),
         source: h.source.0,
         from: point_of(from),
-        control: frame::fc(control),
+        control: control::fc(control),
         start: p.start,
         count: p.count,
     }
@@ -197,8 +197,8 @@ pub extern "C" fn cihlomet_write(
     ensures { λ r. ⌜ r ≡ writes destination to source from control (now («data» .entry)) (now (out .entry)) ⌝ }
     ensures { λ _. ⌜ now (out .exit) ≡ leaves destination to source from control (now («data» .entry)) (now (out .entry)) ⌝ }
 {
-    let c = frame::control_of(control);
-    if !frame::named(c, control) {
+    let c = control::control_of(control);
+    if !control::named(c, control) {
         return unlisted(destination, source);
     }
     let h = Head {

@@ -11,7 +11,7 @@ use Rattle.frame.specs.declared.Fields.{Fields}
 use Rattle.frame.specs.declared.Fields.the-variants.{Token, Short, Frame}
 use Rattle.frame.specs.declared.Written.{Written}
 use Rattle.frame.specs.declared.Written.the-variants.{Refused, Count}
-use Rattle.frame.specs.Control.{fc, listed, sdn}
+use Rattle.control.specs.Control.{fc, listed, sdn}
 
 -- the start octets, and the end
 abbrev pub SD1 : ℕ

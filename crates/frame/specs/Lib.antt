@@ -1,3 +1,2 @@
-pub mod Control
 pub mod Format
 pub mod Reading

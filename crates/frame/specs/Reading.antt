@@ -13,7 +13,7 @@ use Rattle.frame.specs.declared.Fields.{Fields}
 use Rattle.frame.specs.declared.Fields.the-variants.{Token, Short, Frame}
 use Rattle.frame.specs.declared.Answer.{Answer}
 use Rattle.frame.specs.declared.Answer.the-variants.{Refused, Read}
-use Rattle.frame.specs.Control.{controlOf, listed}
+use Rattle.control.specs.Control.{controlOf, listed}
 use Rattle.frame.specs.Format.{SD1, SD2, SD3, SD4, SC, ED, fcs, misdirected}
 
 -- the octet at a place, 0 past the end

@@ -14,11 +14,11 @@ use Rattle.choice.proofs.Rules.{less-true, less-false, true-less, false-less, t
 use Rattle.frame.specs.declared.Access.{Access}
 use Rattle.frame.specs.declared.Access.the-variants.{None, At}
 use Rattle.frame.specs.declared.Head.{Head}
-use Rattle.frame.specs.Control.{fc, listed}
+use Rattle.control.specs.Control.{fc, listed}
 use Rattle.frame.specs.Format.{announce, extension, unit, addressed, body, outside, misdirected, unwritableFrame}
 use Rattle.frame.specs.Reading.{octet, extensions, accessOf, dataAt, headOf, extended, misnamed, bodyRefusal}
 use Rattle.laws.proofs.Cases.{taken, both-ways, true-is-false}
-use Rattle.frame.proofs.Octet.{control-again, listed-again}
+use Rattle.control.proofs.Octet.{control-again, listed-again}
 
 -- ---- one side of a head as written: the address octet `addressed n a`, and its extension at place i of the body b
 address-again : (n : ℕ) (a : Access) → n < 128 → addressed n a % 128 ≡ n

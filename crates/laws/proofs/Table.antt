@@ -16,7 +16,7 @@ use Rattle.frame.specs.declared.Part.{Part}
 use Rattle.frame.specs.declared.Fields.{Fields}
 use Rattle.frame.specs.declared.Answer.{Answer}
 use Rattle.frame.specs.declared.Answer.the-variants.{Refused}
-use Rattle.frame.specs.Control.{listed}
+use Rattle.control.specs.Control.{listed}
 use Rattle.frame.specs.Format.{SD1, SD2, SD3, SD4, SC, ED, fcs, misdirected}
 use Rattle.frame.specs.Reading.{octet, part, extensions, extended, misnamed, bodyRefusal, answer, bodyAnswer, readBody, mismeasured, readSd2, plain, readToken, readShort, read, refusal}
 use Rattle.laws.specs.Table.{is, framed, addressed, LE, count, first, DA, SA, FC, checked, address, announces, destinationAt, sourceAt, missing, over, noOctets, noStart, cutSd2, badLe, wrongCount, wrongEnd, wrongSum, badAddress, badControl, badExtension, forAll, table}

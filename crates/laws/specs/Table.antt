@@ -7,7 +7,7 @@ use mathlib.Core.List.{List}
 use lib.ListN.{length, take, drop}
 use lib.Dec.{ltb, leb, eqb}
 use Rattle.choice.specs.Choice.{pick}
-use Rattle.frame.specs.Control.{listed, sdn}
+use Rattle.control.specs.Control.{listed, sdn}
 use Rattle.frame.specs.Format.{SD1, SD2, SD3, SD4, SC, fcs}
 use Rattle.frame.specs.Reading.{octet}
 

@@ -2,14 +2,14 @@
 use Prim.Native.Nat.{ℕ, _+_, _/_, _%_}
 use mathlib.Core.List.{List, [], _∷_, _++_}
 use Rattle.choice.specs.Choice.{pick, less}
-use Rattle.frame.specs.declared.Control.{Control}
-use Rattle.frame.specs.declared.Control.the-variants.{Request, Reply}
+use Rattle.control.specs.declared.Control.{Control}
+use Rattle.control.specs.declared.Control.the-variants.{Request, Reply}
 use Rattle.frame.specs.declared.Fields.{Fields}
 use Rattle.frame.specs.declared.Fields.the-variants.{Token, Short, Frame}
 use Rattle.frame.specs.declared.Part.{Part}
 use Rattle.frame.specs.declared.Answer.{Answer}
 use Rattle.frame.specs.declared.Answer.the-variants.{Refused, Read}
-use Rattle.frame.specs.Control.{fc}
+use Rattle.control.specs.Control.{fc}
 use Rattle.frame.specs.Reading.{read}
 
 -- the last decimal digit of a number, in ASCII

@@ -12,7 +12,7 @@ use Rattle.frame.specs.declared.Fields.{Fields}
 use Rattle.frame.specs.declared.Fields.the-variants.{Frame}
 use Rattle.frame.specs.declared.Written.{Written}
 use Rattle.frame.specs.declared.Written.the-variants.{Refused, Count}
-use Rattle.frame.specs.Control.{fc, listed}
+use Rattle.control.specs.Control.{fc, listed}
 use Rattle.frame.specs.Format.{unit, body, framed, octets, outside, misdirected}
 use Rattle.frame.specs.Format.{unwritable, unwritableFrame, refused, written, left}
 use Rattle.laid.specs.Laid.{laid}

@@ -6,7 +6,7 @@ ghost use mathlib.Core.Bool.{true, false};
 ghost use mathlib.Core.List.{[], _∷_};
 ghost use lib.ListN.{length, take, drop};
 ghost use Rattle.choice.specs.Choice.{pick, less, same};
-ghost use Rattle.frame.specs.Control.{fc};
+ghost use Rattle.control.specs.Control.{fc};
 ghost use Rattle.frame.specs.Format.{unit, body, closing, unwritableFrame, written, left};
 ghost use Rattle.frame.specs.Format.{extension as Format·extension, addressed as Format·addressed, outside as Format·outside, SD1 as Format·SD1, SD2 as Format·SD2};
 ghost use Rattle.laid.specs.Laid.{laid, Lays};
@@ -81,7 +81,7 @@ fn refusal(h: Head, control: u8, units: usize) -> u8
     if 127 < destination {
         return 8;
     }
-    if !frame::lawful(c) {
+    if !control::lawful(c) {
         return 9;
     }
     if outside(to, 63) {
@@ -198,7 +198,7 @@ pub fn write_frame(h: Head, data: &[u8], out: &mut [u8]) -> Written
 {
     let n = units(h, data);
     let c = h.control;
-    let control = frame::fc(c);
+    let control = control::fc(c);
     let refused = refusal(h, control, n);
     if refused != 0 {
         return Written::Refused(refused);

@@ -2,7 +2,7 @@
 -- answers, flattened, and leaves for the fields that the numbers mean. Assumes nothing.
 use mathlib.Core.Path.{_≡_, refl}
 use Rattle.choice.proofs.Rules.{denied-false, denied-true}
-use Rattle.frame.specs.Control.{listed}
+use Rattle.control.specs.Control.{listed}
 use Rattle.cihlomet.specs.Flat.{headFrom, writes, leaves}
 use borrow.Author.Needs.{needs}
 use Rattle.cihlomet.proofs.cihlomet_write.Statement.{statement}

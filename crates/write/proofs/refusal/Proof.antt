@@ -4,10 +4,10 @@ use Prim.Native.Nat.{ℕ}
 use mathlib.Core.Path.{_≡_}
 use mathlib.Core.Bool.{Bool}
 use Rattle.choice.proofs.Rules.{picks, asked}
-use Rattle.frame.specs.declared.Control.{Control}
-use Rattle.frame.specs.Control.{fc, lawful, listed}
+use Rattle.control.specs.declared.Control.{Control}
+use Rattle.control.specs.Control.{fc, lawful, listed}
 use Rattle.frame.specs.Format.{misdirected, unwritableFrame}
-use Rattle.frame.proofs.Octet.{listed-fc}
+use Rattle.control.proofs.Octet.{listed-fc}
 use borrow.Author.Needs.{needs}
 use Rattle.write.proofs.refusal.Statement.{statement}
 use Rattle.write.proofs.refusal.Tie as tie
