@@ -1,6 +1,6 @@
--- Document 01, "Times": settings and their rules, the times that follow from them, the wait of each sending, and the
--- time that is left. Assumes nothing.
-use Prim.Native.Nat.{ℕ, _+_, _-_, _*_, _^_, _%_, _≤_, max}
+-- Document 01, "Times": settings and their rules, the times that follow from them, and the wait of each sending.
+-- Assumes nothing.
+use Prim.Native.Nat.{ℕ, _+_, _*_, _≤_, max}
 use mathlib.Core.Bool.{Bool, true, false}
 use Rattle.choice.specs.Choice.{pick, less, said}
 use Rattle.times.specs.declared.Settings.{Settings}
@@ -81,14 +81,6 @@ unfoldable pub waitOf : Settings → Sending → ℕ
 waitOf s Reply = s .mintsdr .0
 waitOf s AfterSdn = tid2 s
 waitOf s Other = tid1 s
-
--- "elapsed time is later minus earlier modulo 2^32"
-unfoldable pub elapsed : ℕ → ℕ → ℕ
-elapsed later earlier = (later + 2 ^ 32 - earlier) % 2 ^ 32
-
--- "Time is left while (clock - the acceptance before this hold's) modulo 2^32 is below TTR"
-unfoldable pub timeLeft : ℕ → ℕ → ℕ → Bool
-timeLeft clock acceptance ttr = less (elapsed clock acceptance) ttr
 
 -- "Standard settings: Tset 20, Tqui 0, min TSDR 20, max TSDR 400, TTD 1, TTR 10000, retry limit 1"
 unfoldable pub standard : Settings

@@ -1,13 +1,11 @@
-// The times of a station: its settings, what follows from them, the wait of each sending and the time that is left.
-// Nothing here knows a phase or a frame. Assumes nothing.
+// The times of a station: its settings, what follows from them and the wait of each sending. Nothing here knows a phase
+// or a frame. Assumes nothing.
 ghost use mathlib.Core.Path.{_≡_};
 ghost use Prim.Native.Nat.{_≤_, max};
-ghost use Rattle.times.specs.Times.{Small, tooLong, reckoned, waitOf, timeLeft};
-ghost use Rattle.times.specs.Times.{outside as Times·outside, tsm as Times·tsm, tid1 as Times·tid1, tid2 as Times·tid2, tsl as Times·tsl, tto as Times·tto, unruly as Times·unruly, elapsed as Times·elapsed, standard as Times·standard};
+ghost use Rattle.times.specs.Times.{Small, tooLong, timesOf, reckoned, waitOf};
+ghost use Rattle.times.specs.Times.{outside as Times·outside, tsm as Times·tsm, tid1 as Times·tid1, tid2 as Times·tid2, tsl as Times·tsl, tto as Times·tto, unruly as Times·unruly, standard as Times·standard};
+use clock::BitTime;
 use frame::Address;
-
-// A number of bit times, and a reading of the bit clock.
-pub struct BitTime(pub u32);
 
 // A count.
 pub struct Count(pub u32);
@@ -122,7 +120,7 @@ fn too_long(s: Settings) -> bool
 }
 
 // Whether settings are out of rule.
-fn unruly(s: Settings) -> bool
+pub fn unruly(s: Settings) -> bool
     ensures { λ r. ⌜ r ≡ Times·unruly s ⌝ }
 {
     let tset = s.tset.0;
@@ -159,6 +157,21 @@ fn unruly(s: Settings) -> bool
     too_long(s)
 }
 
+// The times of a station whose sums are small.
+fn times_of(s: Settings, ts: Address) -> Times
+    requires { ⌜ Small s × (ts .0 ≤ 126) ⌝ }
+    ensures { λ r. ⌜ r ≡ timesOf s (ts .0) ⌝ }
+{
+    let slot = tsl(s);
+    Times {
+        tsm: BitTime(tsm(s)),
+        tid1: BitTime(tid1(s)),
+        tid2: BitTime(tid2(s)),
+        tsl: BitTime(slot),
+        tto: BitTime(6 * slot + 2 * (ts.0 as u32) * slot),
+    }
+}
+
 // The times of a station with an address.
 pub fn reckon(s: Settings, ts: Address) -> Reckoned
     ensures { λ r. ⌜ r ≡ reckoned s (ts .0) ⌝ }
@@ -169,14 +182,7 @@ pub fn reckon(s: Settings, ts: Address) -> Reckoned
     if 126 < ts.0 {
         return Reckoned::Refused(20);
     }
-    let slot = tsl(s);
-    Reckoned::Reckon(Times {
-        tsm: BitTime(tsm(s)),
-        tid1: BitTime(tid1(s)),
-        tid2: BitTime(tid2(s)),
-        tsl: BitTime(slot),
-        tto: BitTime(6 * slot + 2 * (ts.0 as u32) * slot),
-    })
+    Reckoned::Reckon(times_of(s, ts))
 }
 
 // The wait of a sending.
@@ -188,23 +194,5 @@ pub fn wait(s: Settings, sending: Sending) -> BitTime
         Sending::Reply => s.mintsdr,
         Sending::AfterSdn => BitTime(tid2(s)),
         Sending::Other => BitTime(tid1(s)),
-    }
-}
-
-// Later minus earlier on the 32-bit bit clock.
-pub fn elapsed(later: BitTime, earlier: BitTime) -> BitTime
-    ensures { λ r. ⌜ r .0 ≡ Times·elapsed (later .0) (earlier .0) ⌝ }
-{
-    BitTime(std::num::wrapping_sub_u32(later.0, earlier.0))
-}
-
-// Whether time is left: the time elapsed since an acceptance is below TTR.
-pub fn time_left(clock: BitTime, acceptance: BitTime, ttr: BitTime) -> bool
-    ensures { λ r. ⌜ r ≡ timeLeft (clock .0) (acceptance .0) (ttr .0) ⌝ }
-{
-    if elapsed(clock, acceptance).0 < ttr.0 {
-        true
-    } else {
-        false
     }
 }

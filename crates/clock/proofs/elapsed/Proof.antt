@@ -1,10 +1,10 @@
--- `times::elapsed` meets its contract: what wraps back to the later clock is the elapsed time.
+-- `clock::elapsed` meets its contract: what wraps back to the later clock is the elapsed time.
 -- Assumes nothing.
-use Rattle.times.specs.Times.{elapsed}
+use Rattle.clock.specs.Clock.{elapsed}
 use borrow.Author.Needs.{needs}
 use native.Mathlib.Omega.{arith}
-use Rattle.times.proofs.elapsed.Statement.{statement}
-use Rattle.times.proofs.elapsed.Tie as tie
+use Rattle.clock.proofs.elapsed.Statement.{statement}
+use Rattle.clock.proofs.elapsed.Tie as tie
 
 wrapping-sub-u32-requires : tie.Need-wrapping-sub-u32-requires
 wrapping-sub-u32-requires c κs = search needs

@@ -1,11 +1,11 @@
--- `times::time_left` meets its contract: the test of the elapsed time.
+-- `clock::time_left` meets its contract: the test of the elapsed time.
 -- Assumes nothing.
 use mathlib.Core.Path.{sym}
 use Rattle.choice.proofs.Rules.{less-true, less-false}
-use Rattle.times.specs.Times.{timeLeft}
+use Rattle.clock.specs.Clock.{timeLeft}
 use borrow.Author.Needs.{needs}
-use Rattle.times.proofs.time_left.Statement.{statement}
-use Rattle.times.proofs.time_left.Tie as tie
+use Rattle.clock.proofs.time_left.Statement.{statement}
+use Rattle.clock.proofs.time_left.Tie as tie
 
 elapsed-requires : tie.Need-elapsed-requires
 elapsed-requires c κs = search needs
