@@ -1,10 +1,14 @@
 // A frame's body, DA SA FC unit: its fields and where its data lie, or the first refusal of 8..11. Where the body
-// stands and that its checksum holds is left to the reader. The definitions are the frame crate's. Assumes nothing.
+// stands and that its checksum holds is left to the reader. The definitions are those of control and frame.
+// Assumes nothing.
 ghost use mathlib.Core.Path.{_≡_};
 ghost use Prim.Native.Nat.{_+_, _≤_};
 ghost use lib.ListN.{length};
-ghost use Rattle.frame.specs.Reading.{accessOf, dataAt, headOf, bodyRefusal, bodyAnswer};
+ghost use Rattle.control.specs.Control.{controlOf};
+ghost use Rattle.control.specs.Control.{listed as Control·listed};
+ghost use Rattle.frame.specs.Reading.{octet, accessOf, dataAt, headOf, bodyRefusal, bodyAnswer};
 ghost use Rattle.frame.specs.Reading.{extensions as Reading·extensions, extended as Reading·extended, misnamed as Reading·misnamed};
+use control::Control;
 use frame::Access;
 use frame::Address;
 use frame::Answer;
@@ -44,9 +48,9 @@ fn data_at(b: &[u8]) -> usize
     3 + extensions(b[0]) + extensions(b[1])
 }
 
-// The fields of a body whose data begin within it.
-fn head_of(b: &[u8]) -> Head
-    requires { ⌜ dataAt (now b) ≤ length (now b) ⌝ }
+// The fields of a body whose data begin within it, with the control that its FC is read as.
+fn head_of(b: &[u8], control: Control) -> Head
+    requires { ⌜ (dataAt (now b) ≤ length (now b)) × (control ≡ controlOf (octet (now b) 2)) ⌝ }
     ensures { λ r. ⌜ r ≡ headOf (now (b .entry)) ⌝ }
 {
     let d = b[0];
@@ -54,7 +58,6 @@ fn head_of(b: &[u8]) -> Head
     let second = 3 + extensions(d);
     let to = access_of(b, d, 3);
     let from = access_of(b, s, second);
-    let control = control::control_of(b[2]);
     Head {
         destination: Address(d % 128),
         to,
@@ -103,9 +106,17 @@ fn source_misnamed(b: &[u8], d: u8, s: u8) -> bool
     misnamed(b, s, 3 + extensions(d), 62)
 }
 
-// The refusal 8..11 of a body, or 0.
-fn body_refusal(b: &[u8]) -> u8
-    requires { ⌜ 3 ≤ length (now b) ⌝ }
+// Whether an FC octet is listed, by the control that it is read as.
+fn listed(c: Control, n: u8) -> bool
+    requires { ⌜ c ≡ controlOf n ⌝ }
+    ensures { λ r. ⌜ r ≡ Control·listed n ⌝ }
+{
+    control::named(c, n)
+}
+
+// The refusal 8..11 of a body, or 0, with the control that its FC is read as.
+fn body_refusal(b: &[u8], c: Control) -> u8
+    requires { ⌜ (3 ≤ length (now b)) × (c ≡ controlOf (octet (now b) 2)) ⌝ }
     ensures { λ r. ⌜ r ≡ bodyRefusal (now (b .entry)) ⌝ }
 {
     let d = b[0];
@@ -117,7 +128,7 @@ fn body_refusal(b: &[u8]) -> u8
     if extended(b) {
         return 8;
     }
-    if !control::listed(control) {
+    if !listed(c, control) {
         return 9;
     }
     if misnamed(b, d, 3, 63) {
@@ -137,13 +148,14 @@ pub fn body_answer(b: &[u8], start: usize) -> Answer
     requires { ⌜ (3 ≤ length (now b)) × (start ≤ 4) ⌝ }
     ensures { λ r. ⌜ r ≡ bodyAnswer (now (b .entry)) start ⌝ }
 {
-    let refused = body_refusal(b);
+    let control = control::control_of(b[2]);
+    let refused = body_refusal(b, control);
     if refused != 0 {
         return Answer::Refused(refused);
     }
     let at = data_at(b);
     Answer::Read(
-        Fields::Frame(head_of(b)),
+        Fields::Frame(head_of(b, control)),
         Part {
             start: start + at,
             count: b.len() - at,

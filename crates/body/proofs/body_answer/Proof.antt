@@ -14,10 +14,11 @@ unfolding bodyAnswer answer
 returns c = unless-same _ (λ q. c .if1 .taken (c .before .body-refusal .ensures ∙ q)) (cc)
 
 head-of-requires : tie.Need-head-of-requires
-head-of-requires c κs = data-within (c .before .before .before .before .args .b .now) (omega arith) (cc)
+head-of-requires c κs =
+    (data-within (c .before .before .before .before .before .before .args .b .now) (omega arith) (cc), cc)
 
-sub-t10 : tie.Need-sub-t10
-sub-t10 c = omega (arith, head-of-requires (c .before) (c .before .before .before .before .before .κs))
+sub-t13 : tie.Need-sub-t13
+sub-t13 c = omega (arith, head-of-requires (c .before) (c .before .before .before .before .before .before .before .κs) .0)
 
 returns-2 : tie.Need-returns-2
 unfolding bodyAnswer answer
@@ -27,10 +28,12 @@ pub body-answer-spec : {M : Type 1} → statement M
 body-answer-spec =
     tie.close
     (tie.spec
+    (λ c. search needs)
+    (λ c κs. search needs)
     (λ c κs. search needs)
     returns
     (λ c κs. search needs)
     head-of-requires
     (λ c. omega arith)
-    sub-t10
+    sub-t13
     returns-2)

@@ -17,6 +17,4 @@ head-of-spec =
     (λ c. search needs)
     (λ c κs. omega arith)
     (λ c κs. omega arith)
-    (λ c. omega arith)
-    (λ c κs. search needs)
     (λ c. cc))
