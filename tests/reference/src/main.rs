@@ -1,15 +1,26 @@
-//! The independent reader, writer and lister that the library is held against, and the scripts for it.
+//! The independent reader, writer, lister and station that the library is held against, and the scripts for it.
 
 mod answer;
+mod answering;
+mod call;
 mod capture;
 mod draft;
 mod frame;
+mod hold;
 mod lister;
+mod pass;
+mod queue;
 mod random;
 mod reach;
+mod replay;
+mod request;
+mod ring;
 mod sample;
 mod script;
+mod station;
 mod text;
+mod times;
+mod transitions;
 
 use std::io::{self, BufRead, Read, Write};
 use std::process::ExitCode;
@@ -22,6 +33,8 @@ reference reach               lines of call, tab, answer on standard input: what
 reference list                a capture on standard input: its listing
 reference capture SEED KIND   a seeded capture: end, short, long, count or full
 reference sample NAME         a sample capture: document, run, damaged or cut
+reference replay              a replay script on standard input: its answers
+reference transitions         a replay script on standard input: how often it took each transition
 ";
 
 fn main() -> ExitCode {
@@ -35,7 +48,7 @@ fn main() -> ExitCode {
     }
 }
 
-/// Runs the subcommand; false if `reach` found something missing.
+/// Runs the subcommand; false if `reach` or `transitions` found something missing.
 fn run() -> Result<bool, String> {
     let arguments: Vec<String> = std::env::args().skip(1).collect();
     let words: Vec<&str> = arguments.iter().map(String::as_str).collect();
@@ -48,6 +61,8 @@ fn run() -> Result<bool, String> {
         ["list"] => lister::list(&standard_input()?).into_bytes(),
         ["capture", seed, kind] => capture::of_kind(kind, number(seed)?).ok_or(USAGE)?,
         ["sample", name] => sample::of_name(name).ok_or(USAGE)?,
+        ["replay"] => replay::Replay::default().answers(&standard_input()?).into_bytes(),
+        ["transitions"] => return transitions_taken(),
         _ => return Err(USAGE.to_string()),
     };
     put(&output)?;
@@ -86,4 +101,11 @@ fn reached() -> Result<bool, String> {
         eprintln!("a flipped frame was accepted: {call}");
     }
     Ok(all && reach.accepted_flips.is_empty())
+}
+
+fn transitions_taken() -> Result<bool, String> {
+    replay::Replay::default().answers(&standard_input()?);
+    let (report, all) = transitions::report();
+    put(report.as_bytes())?;
+    Ok(all)
 }
