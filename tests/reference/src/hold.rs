@@ -99,18 +99,17 @@ impl Station {
     }
 
     /// The frame of the first request of a queue: FCB and FCV by the mark, 0 and 0 for SDN.
-    fn request_octets(&mut self, priority: Priority) -> Vec<u8> {
-        let (source, marks) = (self.address, self.marks);
+    fn request_octets(&self, priority: Priority) -> Vec<u8> {
         let request = self.queue(priority).first().expect("the request to send");
         let bits = match request.service {
             Service::Sdn => 0,
-            _ => count_bits(marks[usize::from(request.destination)]),
+            _ => count_bits(self.marks[usize::from(request.destination)]),
         };
         note(Transition::requested(request.service, priority));
         let head = Head {
             destination: request.destination,
             to: request.to,
-            source,
+            source: self.address,
             from: request.from,
             control: REQUEST | bits | request_code(request.service, priority),
         };

@@ -5,19 +5,25 @@ mod answering;
 mod call;
 mod capture;
 mod draft;
+mod events;
 mod frame;
 mod hold;
 mod lister;
+mod nonsense;
 mod pass;
+mod peers;
 mod queue;
 mod random;
 mod reach;
 mod replay;
 mod request;
 mod ring;
+mod runs;
 mod sample;
 mod script;
+mod starts;
 mod station;
+mod submits;
 mod text;
 mod times;
 mod transitions;
@@ -33,6 +39,7 @@ reference reach               lines of call, tab, answer on standard input: what
 reference list                a capture on standard input: its listing
 reference capture SEED KIND   a seeded capture: end, short, long, count or full
 reference sample NAME         a sample capture: document, run, damaged or cut
+reference runs SEED CALLS     a replay script of many stations, with CALLS lines at least
 reference replay              a replay script on standard input: its answers
 reference transitions         a replay script on standard input: how often it took each transition
 ";
@@ -61,6 +68,7 @@ fn run() -> Result<bool, String> {
         ["list"] => lister::list(&standard_input()?).into_bytes(),
         ["capture", seed, kind] => capture::of_kind(kind, number(seed)?).ok_or(USAGE)?,
         ["sample", name] => sample::of_name(name).ok_or(USAGE)?,
+        ["runs", seed, calls] => lines(runs::runs(number(seed)?, number(calls)? as usize)),
         ["replay"] => replay::Replay::default().answers(&standard_input()?).into_bytes(),
         ["transitions"] => return transitions_taken(),
         _ => return Err(USAGE.to_string()),

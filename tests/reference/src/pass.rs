@@ -65,10 +65,10 @@ impl Station {
         if was_previous {
             self.previous = self.ring.previous(self.address);
         }
+        // PS stays in the ring until it is removed as NS, so TS is alone only if NS was PS.
         let alone = self.next() == self.address;
         note(match (was_previous, alone) {
-            (false, false) => Transition::CheckRemoved,
-            (false, true) => Transition::CheckRemovedAlone,
+            (false, _) => Transition::CheckRemoved,
             (true, false) => Transition::CheckRemovedPs,
             (true, true) => Transition::CheckRemovedPsAlone,
         });

@@ -5,6 +5,9 @@ use std::collections::VecDeque;
 use crate::frame::{ALL_STATIONS, LAST_DESTINATION_POINT, LAST_SOURCE_POINT, LONGEST_UNIT};
 use crate::transitions::{note, Transition};
 
+/// The most places of a row.
+pub const LONGEST_ROW: u8 = 64;
+
 /// A refusal's number in document 01, 20 to 28.
 pub type Refusal = u8;
 
@@ -126,15 +129,21 @@ impl Queue {
         self.unconfirmed.len()
     }
 
+    /// Whether every place is in use; confirmed requests hold theirs until they are collected.
+    pub fn is_full(&self) -> bool {
+        self.confirmed_count() + self.unconfirmed_count() == self.length
+    }
+
     /// The first unconfirmed request: the one being sent, or else the first that waits.
     pub fn first(&self) -> Option<&Request> {
         self.unconfirmed.front().map(|(_, request)| request)
     }
 
-    /// Takes the next place in turn; confirmed requests hold theirs until they are collected. Refusal 27.
+    /// Takes the next place in turn, or refuses 27.
     pub fn submit(&mut self, request: Request) -> Result<(), Refusal> {
-        if self.confirmed_count() + self.unconfirmed_count() == self.length {
-            note(Transition::SubmitRefusedFull);
+        if self.is_full() {
+            let longest = self.length == usize::from(LONGEST_ROW);
+            note(if longest { Transition::SubmitRefusedFull64 } else { Transition::SubmitRefusedFull });
             return Err(27);
         }
         note(if self.turn + 1 == self.length {

@@ -18,10 +18,9 @@ impl Station {
             self.phase = Phase::Idle;
             return Outcome::nothing();
         }
-        let address = self.address;
         let request = self.queue(exchange.priority).first().expect("the request being sent");
         let plausible = match message {
-            Ok(message) => judge(request, address, message),
+            Ok(message) => judge(request, self.address, message),
             Err(_) => {
                 note(Transition::AwaitedRefused);
                 None

@@ -4,12 +4,11 @@
 use std::collections::BTreeSet;
 
 use crate::frame::{self, Message, ALL_STATIONS, REQUEST};
-use crate::queue::{Confirmed, Priority, Queue, Refusal, Request, Service, Status};
+use crate::queue::{Confirmed, Priority, Queue, Refusal, Request, Service, Status, LONGEST_ROW};
 use crate::ring::Ring;
 use crate::times::Settings;
 use crate::transitions::{note, Transition};
 
-pub const LONGEST_ROW: u8 = 64;
 pub const LONGEST_UPDATE: usize = 244;
 
 /// Active access points; None is the point "none".
@@ -145,7 +144,14 @@ impl Station {
         self.ring.next(self.address)
     }
 
-    pub fn queue(&mut self, priority: Priority) -> &mut Queue {
+    pub fn queue(&self, priority: Priority) -> &Queue {
+        match priority {
+            Priority::High => &self.high,
+            Priority::Low => &self.low,
+        }
+    }
+
+    pub fn queue_mut(&mut self, priority: Priority) -> &mut Queue {
         match priority {
             Priority::High => &mut self.high,
             Priority::Low => &mut self.low,
@@ -154,11 +160,11 @@ impl Station {
 
     pub fn submit(&mut self, priority: Priority, request: Request) -> Result<(), Refusal> {
         request.refuse(self.address)?;
-        self.queue(priority).submit(request)
+        self.queue_mut(priority).submit(request)
     }
 
     pub fn collect(&mut self, priority: Priority) -> Result<Confirmed, Refusal> {
-        let collected = self.queue(priority).collect();
+        let collected = self.queue_mut(priority).collect();
         note(match &collected {
             Err(_) => Transition::CollectRefused,
             Ok(confirmed) if confirmed.request.data.is_empty() => Transition::CollectWithoutData,
@@ -250,7 +256,7 @@ impl Station {
         if status == Status::Ds {
             note(if count == 0 { Transition::DsNeverSent } else { Transition::DsSent });
         }
-        self.queue(priority).confirm(status, count, data);
+        self.queue_mut(priority).confirm(status, count, data);
     }
 
     /// Idle: what a frame does, a refused one nothing.

@@ -39,6 +39,7 @@ transitions! {
     SubmitRefusedService: "submit: refused 25",
     SubmitRefusedLength: "submit: refused 26",
     SubmitRefusedFull: "submit: refused 27",
+    SubmitRefusedFull64: "submit: refused 27 with 64 places",
     SubmitPlace: "submit: accepted",
     SubmitLastPlace: "submit: accepted at the last place of the row",
     CollectRefused: "collect: refused 28",
@@ -125,7 +126,6 @@ transitions! {
     CheckSecondExpiry: "check: second expiry, token again",
     CheckRemoved: "check: third expiry removes NS",
     CheckRemovedPs: "check: third expiry removes NS, who was PS",
-    CheckRemovedAlone: "check: third expiry removes NS, TS is alone",
     CheckRemovedPsAlone: "check: third expiry removes NS, who was PS, TS is alone",
     CheckSent: "check: sent ignored",
 

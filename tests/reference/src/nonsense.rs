@@ -1,0 +1,111 @@
+//! Lines that are no call of the replay script, and lawful ones written oddly.
+
+use crate::random::Random;
+
+/// Each of these prints `?`, whatever the station.
+const NO_CALLS: &[&str] = &[
+    " ",
+    "   ",
+    " # a comment begins with its first character",
+    "\t",
+    "\r",
+    "stop",
+    "Show",
+    "show now",
+    "show\r",
+    "show\t",
+    "\tshow",
+    "reset 1",
+    "collect",
+    "collect high low",
+    "collect High",
+    "collect highest",
+    "collect 0",
+    "sent",
+    "sent 4294967296",
+    "sent 99999999999999999999999999",
+    "sent -1",
+    "sent +1",
+    "sent 0x10",
+    "sent 1.5",
+    "sent 1 2",
+    "sent -",
+    "slot",
+    "slot a",
+    "slot 4294967296",
+    "slot \u{661}",
+    "frame 1 0 - -",
+    "frame 1 0 - - - -",
+    "frame 1 2 - - -",
+    "frame 1 - - - -",
+    "frame 1 yes - - -",
+    "frame x 0 - - -",
+    "frame 4294967296 0 - - -",
+    "frame 1 0 A - -",
+    "frame 1 0 - ABC -",
+    "frame 1 0 - - D",
+    "frame 1 0 - - DC020",
+    "frame 1 0 - - DCG205",
+    "frame 1 0 - - DC 02 05",
+    "frame 1 0 - - --",
+    "frame 1 0 - - 0xDC0205",
+    "frame 1 0 - - DC\u{e9}2",
+    "submit high srd 7 - -",
+    "submit high srd 7 - - - -",
+    "submit mid srd 7 - - -",
+    "submit high SRD 7 - - -",
+    "submit high read 7 - - -",
+    "submit high srd 256 - - -",
+    "submit high srd - - - -",
+    "submit high srd 7 256 - -",
+    "submit high srd 7 none - -",
+    "submit high srd 7 - 300 -",
+    "submit high srd 7 - - 1",
+    "submit high srd 7 - - xy",
+    "start",
+    "start 20 0 20 400 1 10000 1 2 2,5 none 4",
+    "start 20 0 20 400 1 10000 1 2 2,5 none 4 4 4",
+    "start 4294967296 0 20 400 1 10000 1 2 2,5 none 4 4",
+    "start 20 0 20 400 1 10000 1 4294967296 2,5 none 4 4",
+    "start 20 0 20 400 1 10000 1 2 2,127 none 4 4",
+    "start 20 0 20 400 1 10000 1 2 2,,5 none 4 4",
+    "start 20 0 20 400 1 10000 1 2 2,5, none 4 4",
+    "start 20 0 20 400 1 10000 1 2 ,2 none 4 4",
+    "start 20 0 20 400 1 10000 1 2 2,- none 4 4",
+    "start 20 0 20 400 1 10000 1 2 none none 4 4",
+    "start 20 0 20 400 1 10000 1 2 2,5 63 4 4",
+    "start 20 0 20 400 1 10000 1 2 2,5 -,1 4 4",
+    "start 20 0 20 400 1 10000 1 2 2,5 None 4 4",
+    "start 20 0 20 400 1 10000 1 2 2,5 1,,2 4 4",
+    "start 20 0 20 400 1 10000 1 2 2,5 none 256 4",
+    "start 20 0 20 400 1 10000 1 2 2,5 none 4 256",
+    "start 20 0 20 400 1 10000 1 2 2,5 none - 4",
+];
+
+/// A line that prints `?`, or one that prints nothing.
+pub fn line(random: &mut Random) -> String {
+    let tail = random.below(20);
+    match random.below(12) {
+        0 => String::new(),
+        1 => "# show".to_string(),
+        2 => format!("#{}", " 0".repeat(2040 + tail)),
+        // Just over and at the longest line: frames of zeros that the reader refuses.
+        3 => format!("frame 1 0 - - {}", "0".repeat(4083 + tail)),
+        4 => format!("show{}", " ".repeat(4093 + tail)),
+        _ => random.pick(NO_CALLS).to_string(),
+    }
+}
+
+/// The same call in other characters: more spaces, lower-case hex, a clock with leading zeros, a longest line.
+pub fn rewritten(random: &mut Random, line: &str) -> String {
+    match random.below(5) {
+        0 => line.replace(' ', "  "),
+        1 => format!(" {line}   "),
+        2 => line.to_lowercase(),
+        3 if line.len() < 4096 => format!("{line}{}", " ".repeat(4096 - line.len())),
+        _ => match line.split_once(' ') {
+            Some((word @ ("frame" | "sent" | "slot"), rest)) => format!("{word} 000000000000{rest}"),
+            _ => line.to_string(),
+        },
+    }
+}
