@@ -259,3 +259,49 @@ fn any_reply(random: &mut Random) -> Vec<u8> {
         }
     }
 }
+
+#[cfg(test)]
+mod tests {
+    use std::collections::VecDeque;
+
+    use super::*;
+    use crate::transitions;
+
+    /// A high request that waits: how many were ahead of it, and the holds begun when it was accepted.
+    type Urgent = (u64, u64);
+
+    /// Drops what was confirmed, adds what was accepted, and finds a request that was put off too long.
+    fn watch(waiting: &mut VecDeque<Urgent>, station: &Station, submitted: bool, holds: u64) {
+        let unconfirmed = station.queue(Priority::High).unconfirmed_count();
+        if submitted && unconfirmed > waiting.len() {
+            waiting.push_back((waiting.len() as u64, holds));
+        }
+        waiting.drain(..waiting.len() - unconfirmed);
+        let holding = matches!(station.phase, Phase::ReplyAwaited(_) | Phase::SdnGoingOut(_));
+        for (ahead, accepted) in waiting {
+            let ended = holds - *accepted - u64::from(holding && holds > *accepted);
+            assert!(ended <= *ahead, "{ended} holds ended with {ahead} requests ahead");
+        }
+    }
+
+    /// Demand 3 on the reference itself: k high requests ahead, confirmed by the end of the hold k + 1.
+    #[test]
+    fn nothing_starves_a_high_request() {
+        let script = runs(3, 50_000);
+        let mut replay = Replay::default();
+        let mut waiting = VecDeque::new();
+        for line in script {
+            let before = transitions::holds();
+            let answer = replay.answer(line.as_bytes()).unwrap_or_default();
+            let word = line.split_whitespace().next().unwrap_or_default();
+            if word == "start" && answer == "ok" {
+                waiting.clear();
+            }
+            let holds = transitions::holds();
+            assert!(holds - before <= 1, "{line}");
+            if let Some(station) = &replay.station {
+                watch(&mut waiting, station, word == "submit", holds);
+            }
+        }
+    }
+}

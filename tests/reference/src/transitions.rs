@@ -212,6 +212,13 @@ pub fn note(transition: Transition) {
     COUNTS.with_borrow_mut(|counts| counts[transition as usize] += 1);
 }
 
+/// How many holds began.
+#[cfg(test)]
+pub fn holds() -> u64 {
+    let begun = [Transition::TimeFirstHold, Transition::TimeLeft, Transition::TimeLate];
+    COUNTS.with_borrow(|counts| begun.iter().map(|&transition| counts[transition as usize]).sum())
+}
+
 impl Transition {
     /// The sending of a request for the first time.
     pub fn requested(service: Service, priority: Priority) -> Transition {
