@@ -36,8 +36,8 @@ const IDLE: &[(usize, Event)] = &[
     (2, Reply),
     (1, Short),
     (3, Damaged),
-    (1, Slot),
-    (1, Sent),
+    (3, Slot),
+    (2, Sent),
 ];
 const AWAITED: &[(usize, Event)] = &[
     (60, Plausible),

@@ -120,7 +120,7 @@ impl Run {
         }
     }
 
-    /// One call: of the station's own user, or an event of its phase.
+    /// One call: of the station's own user, or an event of its phase; at times a look at what came of it.
     fn step(&mut self) {
         let of_user = if self.random.percent(self.life.submits) {
             self.submit()
@@ -133,6 +133,9 @@ impl Run {
         };
         let line = of_user.unwrap_or_else(|| self.event());
         self.say(line);
+        if self.random.one_in(8) {
+            self.say_all(&["show"]);
+        }
     }
 
     /// A submit; to a full queue only now and then.
@@ -158,10 +161,9 @@ impl Run {
 
     /// Calls that are good at any time.
     fn aside(&mut self) -> String {
-        match self.random.below(10) {
-            0..=2 => "show".to_string(),
-            3 | 4 => "reset".to_string(),
-            5 => starts::unlawful(&mut self.random),
+        match self.random.below(8) {
+            0 | 1 => "reset".to_string(),
+            2 => starts::unlawful(&mut self.random),
             _ => nonsense::line(&mut self.random),
         }
     }
