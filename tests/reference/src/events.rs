@@ -9,6 +9,7 @@ pub enum Event {
     TokenFromPrevious,
     TokenFromStranger,
     TokenFromMaster,
+    TokenFromNext,
     TokenFromSelf,
     TokenToOther,
     Request,
@@ -29,6 +30,7 @@ const IDLE: &[(usize, Event)] = &[
     (40, TokenFromPrevious),
     (12, TokenFromStranger),
     (4, TokenFromMaster),
+    (4, TokenFromNext),
     (3, TokenFromSelf),
     (3, TokenToOther),
     (36, Request),
@@ -76,8 +78,15 @@ const CHECK: &[(usize, Event)] = &[
     (16, Slot),
     (3, Sent),
 ];
-const CHECK_SILENT: &[(usize, Event)] =
-    &[(80, Slot), (6, TokenFromPrevious), (6, TokenFromStranger), (3, Request), (3, Damaged), (2, Sent)];
+const CHECK_SILENT: &[(usize, Event)] = &[
+    (80, Slot),
+    (6, TokenFromPrevious),
+    (4, TokenFromStranger),
+    (4, TokenFromNext),
+    (3, Request),
+    (3, Damaged),
+    (2, Sent),
+];
 const ALONE: &[(usize, Event)] =
     &[(80, Sent), (6, Slot), (4, TokenFromStranger), (4, Request), (3, Damaged), (3, TokenFromSelf)];
 

@@ -129,6 +129,10 @@ impl Queue {
         self.unconfirmed.len()
     }
 
+    pub fn is_longest(&self) -> bool {
+        self.length == usize::from(LONGEST_ROW)
+    }
+
     /// Whether every place is in use; confirmed requests hold theirs until they are collected.
     pub fn is_full(&self) -> bool {
         self.confirmed_count() + self.unconfirmed_count() == self.length
@@ -142,8 +146,11 @@ impl Queue {
     /// Takes the next place in turn, or refuses 27.
     pub fn submit(&mut self, request: Request) -> Result<(), Refusal> {
         if self.is_full() {
-            let longest = self.length == usize::from(LONGEST_ROW);
-            note(if longest { Transition::SubmitRefusedFull64 } else { Transition::SubmitRefusedFull });
+            note(if self.is_longest() {
+                Transition::SubmitRefusedFull64
+            } else {
+                Transition::SubmitRefusedFull
+            });
             return Err(27);
         }
         note(if self.turn + 1 == self.length {

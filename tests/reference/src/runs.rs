@@ -30,9 +30,8 @@ struct Life {
 impl Life {
     fn new(random: &mut Random, ttr: u32) -> Life {
         let addresses = |random: &mut Random, count| (0..count).map(|_| peers::address(random)).collect();
-        let (short, long) = (30 + random.below(150), 500);
         Life {
-            steps: if random.one_in(20) { long } else { short },
+            steps: 30 + random.below(150),
             submits: random.pick(&[10, 20, 35, 50, 70]),
             collects: random.pick(&[3, 25, 50, 70]),
             silent: random.one_in(4),
@@ -42,6 +41,11 @@ impl Life {
             room: random.pick(&[20, 70, 90]),
             updates: random.pick(&[10, 40, 80]),
         }
+    }
+
+    /// A life long and eager enough to fill a row of 64.
+    fn filling(random: &mut Random, ttr: u32) -> Life {
+        Life { steps: 300, submits: 90, collects: 3, ..Life::new(random, ttr) }
     }
 }
 
@@ -104,7 +108,10 @@ impl Run {
         let start = starts::lawful(&mut self.random);
         self.say(start);
         let ttr = self.station().settings.ttr;
-        self.life = Life::new(&mut self.random, ttr);
+        let longest =
+            [Priority::High, Priority::Low].iter().any(|&row| self.station().queue(row).is_longest());
+        let filling = longest && self.random.one_in(8);
+        self.life = if filling { Life::filling } else { Life::new }(&mut self.random, ttr);
         let anything = self.random.below(1 << 32) as u32;
         let near_wrap = 0_u32.wrapping_sub(self.random.below(20 * ttr as usize) as u32);
         self.clock = self.random.pick(&[0, anything, near_wrap]);
@@ -195,6 +202,7 @@ impl Run {
                 peers::token(own, station.first_token.filter(|_| random.one_in(2)).unwrap_or(stranger))
             }
             (Event::TokenFromMaster, _) => peers::token(own, random.pick(&station.ring.masters())),
+            (Event::TokenFromNext, _) => peers::token(own, station.next()),
             (Event::TokenFromSelf, _) => peers::token(own, own),
             (Event::TokenToOther, _) => peers::token((own + 1) % ALL_STATIONS, peers::address(random)),
             (Event::Request, _) => peers::request_to(random, station, &self.life.peers),
