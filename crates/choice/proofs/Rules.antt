@@ -1,7 +1,7 @@
 -- The rules by which a return is held to a chain of `pick`: for each test one rule for either answer. Each concludes
 -- `z ≡ pick (test) x y`, so `search (picks, asked)` finds the return's place in the chain. Assumes nothing.
 use Prim.Native.Nat.{ℕ, _<_, _≤_}
-use mathlib.Core.Bool.{Bool, true, false, not}
+use mathlib.Core.Bool.{Bool, true, false, not, true≢false}
 use mathlib.Core.Path.{_≡_, refl, sym, _∙_}
 use native.Mathlib.Omega.{arith}
 use borrow.Author.Tests.{lt-ltb, le-ltb, le-leb, lt-leb, eq-eqb, ne-eqb, ltb-true, ltb-false, leb-true, leb-false, eqb-true, eqb-false, not-true, not-false}
@@ -65,6 +65,12 @@ pub pick-false : {A : Type 0} {b : Bool} (x y : A) → b ≡ false → pick b x 
 unfolding pick
 pick-false x y h = rw h
 
+-- a test as its own answer
+pub pick-itself : (b : Bool) → pick b true false ≡ b
+unfolding pick
+pick-itself true = refl
+pick-itself false = refl
+
 -- ---- the rules, for a test of numbers
 pub if-less : {A : Type 0} {a b : ℕ} {x z : A} (y : A) → a < b → z ≡ x → z ≡ pick (less a b) x y
 if-less _ h e = e ∙ sym (pick-true _ _ (less-true h))
@@ -124,6 +130,17 @@ pub held : (b : Bool) (y n : ℕ) → 0 < n → pick b y n ≡ 0 → (b ≡ true
 unfolding pick
 held true y n p e = (refl, e)
 held false y n p e = absurd (omega arith)
+
+-- ---- the same for a chain of tests that came to false
+pub unrefused : (b y : Bool) → pick b true y ≡ false → (b ≡ false) × (y ≡ false)
+unfolding pick
+unrefused true y e = absurd (true≢false e)
+unrefused false y e = (refl, e)
+
+pub granted : (b y : Bool) → pick b y true ≡ false → (b ≡ true) × (y ≡ false)
+unfolding pick
+granted true y e = (refl, e)
+granted false y e = absurd (true≢false e)
 
 pub is-said : {b r : Bool} → said b ≡ r → b ≡ r
 unfolding said

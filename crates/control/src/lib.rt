@@ -101,7 +101,7 @@ fn service_of(n: u8) -> Service
     Service::Lsap
 }
 
-fn code_number(c: Code) -> u8
+pub fn code_number(c: Code) -> u8
     ensures { λ r. ⌜ r ≡ codeNumber c ⌝ }
     ensures { λ r. ⌜ r < 16 ⌝ }
 {

@@ -44,6 +44,14 @@ ruly-small s e =
       ttd = false-less 65535 (s .ttd .0) (g .0);
     }
 
+-- and their retry limit is at most 15
+pub ruly-retries : (s : Settings) → unruly s ≡ false → s .retries .0 ≤ 15
+unfolding unruly
+ruly-retries s e =
+    let d = stood _ _ (fell _ _ (fell _ _ (fell _ _ e .1) .1) .1) in
+    let g = fell _ _ (fell _ _ (d .1) .1) in
+    false-less 15 (s .retries .0) (fell _ _ (fell _ _ (g .1) .1) .0)
+
 -- 2 TS TSL is small
 pub small-product : (ts slot : ℕ) → ts ≤ 126 → slot ≤ 197383 → 2 * ts * slot ≤ 252 * 197383
 small-product ts slot h g = mul-le-mul {n₁ = 2 * ts} {m₁ = slot} {n₂ = 252} {m₂ = 197383} (omega arith) g

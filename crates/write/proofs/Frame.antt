@@ -7,12 +7,12 @@ use mathlib.Core.List.{List, [], _∷_, _++_}
 use native.Mathlib.Omega.{arith}
 use native.Mathlib.Numerals.{add-one, add-two}
 use lib.ListN.{length, take, drop, set, length-append}
-use lib.Seq.{length-take-le, drop-at, take-append-seam}
 use Rattle.choice.specs.Choice.{pick, same}
 use Rattle.choice.proofs.Rules.{same-false}
 use Rattle.frame.specs.Format.{SD1, SD2, sd1, sd2, closing, framed}
 use Rattle.laid.specs.Laid.{laid, Lays}
 use Rattle.laid.proofs.Laws.{laid-sets, laid-laid, laid-behind, length-laid}
+use Rattle.laid.proofs.Octets.{laid-part}
 
 -- two stores, and a piece behind three
 pub laid-two : (l : List ℕ) (i a b : ℕ) → i + 2 ≤ length l → set (set l i a) (i + 1) b ≡ laid l i (a ∷ (b ∷ []))
@@ -25,12 +25,6 @@ laid-three l i a b d w h =
     laid-behind l _ i (i + 3) u w h refl (rw (add-one i, add-two i) (laid-sets l i u h))
 
 -- a body that was laid is read again, and closed by what was read
-laid-part : (l : List ℕ) (i : ℕ) (u : List ℕ) → i ≤ length l → take (length u) (drop i (laid l i u)) ≡ u
-unfolding laid
-laid-part l i u h =
-    let q : List ℕ = drop (i + length u) l in
-    rw (drop-at (take i l) (u ++ q) i (length-take-le i l h)) (take-append-seam u q)
-
 laid-closed : (l : List ℕ) (i n : ℕ) (b : List ℕ) → i + n ≤ length l → length b ≡ n
     → laid (laid l i b) (i + n) (closing (take n (drop i (laid l i b)))) ≡ laid l i (b ++ closing b)
 laid-closed l i n b h e = rw (← e, laid-part l i b (omega arith)) (laid-laid l i b (closing b) (omega arith))
