@@ -1,0 +1,109 @@
+-- Document 01, "Station": a request record as octets at a place of a row, and what submit refuses in one. Assumes nothing.
+use Prim.Native.Nat.{ℕ, _+_}
+use mathlib.Core.Bool.{Bool, true, false}
+use mathlib.Core.List.{List, [], _∷_}
+use Rattle.choice.specs.Choice.{pick, less, same, said}
+use Rattle.frame.specs.declared.Access.{Access}
+use Rattle.frame.specs.declared.Access.the-variants.{None, At}
+use Rattle.frame.specs.declared.Address.{Address}
+use Rattle.frame.specs.Reading.{octet}
+use Rattle.request.specs.declared.Record.{Record}
+
+-- a record's service: SDA, SDN or SRD, by the number that FC has for it in the low queue
+abbrev pub SDA : ℕ
+SDA = 3
+
+abbrev pub SDN : ℕ
+SDN = 4
+
+abbrev pub SRD : ℕ
+SRD = 12
+
+-- a record's status: waiting, or that of its confirmation, by the reply's code, NA or DS
+abbrev pub OK : ℕ
+OK = 0
+
+abbrev pub NA : ℕ
+NA = 16
+
+abbrev pub DS : ℕ
+DS = 17
+
+abbrev pub WAITING : ℕ
+WAITING = 255
+
+-- "a status not named here" is not one of these: OK, UE, RR, RS, DL, NR, DH, RDL, RDH, NA, DS
+unfoldable pub named : ℕ → Bool
+named n =
+    pick (less n 4) true
+    (pick (less n 8) false
+    (pick (less n 11) true
+    (pick (same n 12) true
+    (pick (same n 13) true
+    (pick (same n NA) true
+    (pick (same n DS) true false))))))
+
+-- the octet that stands for "no access point", and the access point of an octet
+abbrev pub NONE : ℕ
+NONE = 255
+
+unfoldable pub accessOf : ℕ → Access
+accessOf n = pick (same n NONE) None (At (record { 0 = n }))
+
+-- the octets of a record, and the record of the octets from a place on
+abbrev pub SIZE : ℕ
+SIZE = 7
+
+unfoldable pub octets : Record → List ℕ
+octets r =
+    r .service ∷ (r .destination .0 ∷ (r .to .0 ∷ (r .from .0 ∷ (r .length ∷ (r .status ∷ (r .count ∷ []))))))
+
+unfoldable pub recordAt : List ℕ → ℕ → Record
+recordAt l i =
+    record {
+      service = octet l i;
+      destination = record { 0 = octet l (i + 1) };
+      to = record { 0 = octet l (i + 2) };
+      from = record { 0 = octet l (i + 3) };
+      length = octet l (i + 4);
+      status = octet l (i + 5);
+      count = octet l (i + 6);
+    }
+
+-- 23: "DA over 127, own, or 127 not for SDN"
+unfoldable pub misaddressed : ℕ → ℕ → ℕ → Bool
+misaddressed ts destination service =
+    pick (less 127 destination) true
+    (pick (same destination ts) true
+    (pick (same destination 127) (pick (same service SDN) false true) false))
+
+-- 24: "access point out of range, or destination 63 but for SDN"
+unfoldable pub beyond : ℕ → ℕ → Bool
+beyond point most = pick (same point NONE) false (pick (less most point) true false)
+
+unfoldable pub mispointed : ℕ → ℕ → ℕ → Bool
+mispointed to from service =
+    pick (said (beyond to 63)) true
+    (pick (said (beyond from 62)) true
+    (pick (same to 63) (pick (same service SDN) false true) false))
+
+-- 25: "service other than SDA, SDN, SRD"
+unfoldable pub unserved : ℕ → Bool
+unserved service = pick (same service SDA) false (pick (same service SDN) false (pick (same service SRD) false true))
+
+-- how many extension octets an access point has
+unfoldable pub extensions : ℕ → ℕ
+extensions point = pick (same point NONE) 0 1
+
+-- 26: "data plus access points over 246", of n octets of data
+unfoldable pub overlong : ℕ → ℕ → ℕ → Bool
+overlong to from n = pick (less 246 (extensions to + (extensions from + n))) true false
+
+-- 23 to 26, first match, of a request of station TS with n octets of data; 0 is none of these
+unfoldable pub unfit : ℕ → Record → ℕ → ℕ
+unfit ts r n =
+    pick (said (misaddressed ts (r .destination .0) (r .service))) 23
+    (pick (said (mispointed (r .to .0) (r .from .0) (r .service))) 24
+    (pick (said (unserved (r .service))) 25
+    (pick (said (overlong (r .to .0) (r .from .0) n)) 26
+    0)))
