@@ -1,0 +1,5 @@
+pub mod Laws
+pub mod Submitted
+pub mod Draining
+pub mod Check
+pub mod Kept

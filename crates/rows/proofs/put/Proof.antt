@@ -1,0 +1,14 @@
+-- `rows::put` meets its contract. Assumes nothing.
+use Rattle.rows.specs.Rows.{put}
+use borrow.Author.Needs.{needs}
+use Rattle.rows.proofs.put.Statement.{statement}
+use Rattle.rows.proofs.put.Tie as tie
+
+returns : tie.Need-returns
+unfolding put
+returns c = cc
+
+pub put-spec : {M : Type 1} → statement M
+put-spec =
+    tie.close
+    (tie.spec (λ c κs. search needs) (λ c. search needs) (λ c κs. search needs) (λ c. search needs) returns)

@@ -1,0 +1,115 @@
+// A row of request records as octets at fixed places, with its data area: submit, confirm, collect, and the check of the
+// unconfirmed records, thin over the queue's decisions. Assumes nothing.
+ghost use mathlib.Core.Path.{_≡_};
+ghost use Prim.Native.Nat.{_+_, _*_, _<_, _≤_};
+ghost use lib.ListN.{length};
+ghost use Rattle.queue.specs.Queue.{Ruled};
+ghost use Rattle.rows.specs.Rows.{Lent, left, submitted, handed, at as Rows·at, put as Rows·put, fill as Rows·fill, confirm as Rows·confirm, drain as Rows·drain, sound as Rows·sound};
+use frame::Address;
+use queue::Collected;
+use queue::Queue;
+use queue::Taken;
+use request::Record;
+
+// The octets of a record.
+const SIZE: usize = 7;
+
+// The record at a place.
+pub fn at(row: &[u8], place: u8) -> Record
+    requires { ⌜ 7 * place + 7 ≤ length (now row) ⌝ }
+    ensures { λ r. ⌜ r ≡ Rows·at (now (row .entry)) place ⌝ }
+{
+    request::read(row, SIZE * frame::wide(place))
+}
+
+// Puts a record at a place.
+pub fn put(row: &mut [u8], place: u8, r: Record)
+    requires { ⌜ 7 * place + 7 ≤ length (now row) ⌝ }
+    ensures { λ _. ⌜ now (row .exit) ≡ Rows·put (now (row .entry)) place r ⌝ }
+{
+    request::write(row, SIZE * frame::wide(place), r);
+}
+
+// Puts octets at a place of the data area.
+fn fill(area: &mut [u8], place: u8, x: &[u8])
+    requires { ⌜ (246 * place + 246 ≤ length (now area)) × (length (now x) ≤ 246) ⌝ }
+    ensures { λ _. ⌜ now (area .exit) ≡ Rows·fill (now (area .entry)) place (now (x .entry)) ⌝ }
+{
+    laid::lay(x, area, 246 * frame::wide(place));
+}
+
+// Submits a request with its data.
+pub fn submit(ts: Address, q: Queue, r: Record, x: &[u8], row: &mut [u8], area: &mut [u8]) -> Taken
+    ensures { λ t. ⌜ left t (now (row .exit)) (now (area .exit)) ≡ submitted (ts .0) q r (now (x .entry)) (now (row .entry)) (now (area .entry)) ⌝ }
+{
+    if queue::misfit(q, SIZE, row.len(), area.len()) {
+        return queue::refuse(21, q, r);
+    }
+    if queue::overfull(q) {
+        return queue::refuse(29, q, r);
+    }
+    let t = queue::take(ts, q, r, x.len());
+    if t.refused != 0 {
+        return t;
+    }
+    let entry = t.entry;
+    put(row, t.place, entry);
+    fill(area, t.place, x);
+    t
+}
+
+// Confirms the first unconfirmed request, with the reply's data.
+pub fn confirm(q: Queue, status: u8, count: u8, x: &[u8], row: &mut [u8], area: &mut [u8]) -> Queue
+    requires { ⌜ (Ruled q) × ((0 < q .unconfirmed) × (Lent q (now row) (now area) × (length (now x) ≤ 246))) ⌝ }
+    ensures { λ r. ⌜ left r (now (row .exit)) (now (area .exit)) ≡ Rows·confirm q status count (now (x .entry)) (now (row .entry)) (now (area .entry)) ⌝ }
+{
+    let place = queue::current(q);
+    let entry = queue::close(at(row, place), status, count, x.len() as u8);
+    put(row, place, entry);
+    fill(area, place, x);
+    queue::confirm(q)
+}
+
+// Confirms all unconfirmed requests DS, the first with its count of sendings.
+pub fn drain(q: Queue, count: u8, row: &mut [u8], area: &mut [u8]) -> Queue
+    requires { ⌜ (Ruled q) × (Lent q (now row) (now area)) ⌝ }
+    ensures { λ r. ⌜ left r (now (row .exit)) (now (area .exit)) ≡ Rows·drain (q .unconfirmed) count (left q (now (row .entry)) (now (area .entry))) ⌝ }
+{
+    let mut rest = q;
+    let mut sendings = count;
+    while rest.unconfirmed != 0 {
+        rest = confirm(rest, request::DS, sendings, b"", row, area);
+        sendings = 0;
+    }
+    rest
+}
+
+// Hands back the oldest confirmed record and its place's number.
+pub fn collect(q: Queue, row: &[u8], area: &[u8]) -> Collected
+    ensures { λ r. ⌜ r ≡ handed q (now (row .entry)) (now (area .entry)) ⌝ }
+{
+    if queue::misfit(q, SIZE, row.len(), area.len()) {
+        return Collected::Refused(21);
+    }
+    if queue::overfull(q) {
+        return Collected::Refused(29);
+    }
+    queue::collect(q, at(row, q.first))
+}
+
+// Whether every unconfirmed record is one that submit would take.
+pub fn sound(ts: Address, q: Queue, row: &[u8]) -> bool
+    requires { ⌜ (Ruled q) × (length (now row) ≡ 7 * q .places) ⌝ }
+    ensures { λ r. ⌜ r ≡ Rows·sound (ts .0) q (now (row .entry)) (q .unconfirmed) ⌝ }
+{
+    let ahead = q.confirmed;
+    let mut n = q.unconfirmed;
+    while n != 0 {
+        n -= 1;
+        let r = at(row, queue::place(q, ahead + n));
+        if request::unfit(ts, r, frame::wide(r.length)) != 0 {
+            return false;
+        }
+    }
+    true
+}
