@@ -1,0 +1,293 @@
+-- What is known where nothing is refused: each test that was passed, in numbers. Assumes nothing.
+use Prim.Native.Nat.{ℕ, _<_, _≤_}
+use mathlib.Core.Bool.{Bool, true, false, not}
+use mathlib.Core.List.{List}
+use mathlib.Core.Path.{_≡_, refl, sym}
+use native.Mathlib.Omega.{arith}
+use Rattle.choice.specs.Choice.{pick}
+use Rattle.choice.proofs.Rules.{false-less, true-same, false-same, passed, unrefused, granted, is-said}
+use Rattle.ring.specs.Ring.{member, nextOf}
+use Rattle.times.specs.declared.Settings.{Settings}
+use Rattle.times.specs.Times.{Small}
+use Rattle.times.proofs.Rules.{ruly-small, ruly-retries}
+use Rattle.request.specs.declared.Record.{Record}
+use Rattle.request.specs.Record.{SDN}
+use Rattle.queue.specs.declared.Queue.{Queue}
+use Rattle.queue.specs.Queue.{Ruled, current}
+use Rattle.queue.proofs.Laws.{ruled}
+use Rattle.rows.specs.Rows.{Lent, at}
+use Rattle.rows.proofs.Laws.{lent}
+use Rattle.state.specs.declared.Phase.{Phase}
+use Rattle.state.specs.declared.Phase.the-variants.{Awaited, Sdn, Check, ToSelf}
+use Rattle.state.specs.declared.Priority.{Priority}
+use Rattle.state.specs.declared.Priority.the-variants.{High, Low}
+use Rattle.state.specs.declared.Core.{Core}
+use Rattle.state.specs.declared.Kept.{Kept}
+use Rattle.state.specs.World.{Rows, queueOf}
+use Rattle.state.specs.Refusals.{Lawful, Sited, unstartable, unlent, cramped, unstarted, misaddressed, overcounted, oddIn, lawless, soundIn, unlikeIn, rowBy, inFlight, unsound, refusalIn}
+
+-- a test turned round, as its own answer
+pub pick-not : (b : Bool) → pick b false true ≡ not b
+unfolding pick
+pick-not true = refl
+pick-not false = refl
+
+not-turned : (b : Bool) → pick b false true ≡ false → b ≡ true
+unfolding pick
+not-turned true e = refl
+not-turned false e = sym e
+
+-- ---- 20
+module _ (s : Settings) (ts : ℕ) (masters : List ℕ) (e : unstartable s ts masters ≡ false) where
+  pub startable-settings : Small s
+  unfolding unstartable
+  startable-settings = ruly-small s (is-said (unrefused _ _ e .0))
+
+  pub startable-retries : s .retries .0 ≤ 15
+  unfolding unstartable
+  startable-retries = ruly-retries s (is-said (unrefused _ _ e .0))
+
+  pub startable-ts : ts < 127
+  unfolding unstartable
+  startable-ts =
+      let a = unrefused _ _ e in
+      omega (arith, false-less 126 ts (unrefused _ _ (a .1) .0))
+
+  pub startable-member : member masters ts ≡ true
+  unfolding unstartable
+  startable-member =
+      let a = unrefused _ _ e in
+      is-said (not-turned _ (unrefused _ _ (a .1) .1))
+
+-- ---- 21
+pub lent-rows : (q : Queue) (r : Rows) → unlent q r ≡ false → Lent q (r .row) (r .area)
+unfolding unlent
+lent-rows q r e = lent q (r .row) (r .area) e
+
+-- ---- 22
+roomy : (out first second : ℕ) → cramped out first second ≡ false → (255 ≤ out) × ((first ≤ 244) × (second ≤ 244))
+unfolding cramped
+roomy out first second e =
+    let a = unrefused _ _ e in
+    let b = unrefused _ _ (a .1) in
+    let d = unrefused _ _ (b .1) in
+    (false-less out 255 (a .0), (false-less 244 first (b .0), false-less 244 second (d .0)))
+
+-- ---- 29, by the state alone
+pub started-startable : (c : Core) (masters started : List ℕ) → unstarted c masters started ≡ false → unstartable (c .settings) (c .ts .0) masters ≡ false
+unfolding unstarted
+started-startable c masters started e = is-said (unrefused _ _ e .0)
+
+started-member : (c : Core) (masters started : List ℕ) → unstarted c masters started ≡ false → member started (c .ts .0) ≡ true
+unfolding unstarted
+started-member c masters started e = is-said (not-turned _ (unrefused _ _ e .1))
+
+addressed : (ps stranger source : ℕ) → misaddressed ps stranger source ≡ false → (ps ≤ 126) × ((stranger ≤ 127) × (source ≤ 127))
+unfolding misaddressed
+addressed ps stranger source e =
+    let a = unrefused _ _ e in
+    let b = unrefused _ _ (a .1) in
+    let d = unrefused _ _ (b .1) in
+    (false-less 126 ps (a .0), (false-less 127 stranger (b .0), false-less 127 source (d .0)))
+
+counted : (high low : Queue) (reply : ℕ) → overcounted high low reply ≡ false → (Ruled high) × ((Ruled low) × (reply ≤ 255))
+unfolding overcounted
+counted high low reply e =
+    let a = unrefused _ _ e in
+    let b = unrefused _ _ (a .1) in
+    let d = unrefused _ _ (b .1) in
+    (ruled high (is-said (a .0)), (ruled low (is-said (b .0)), false-less 255 reply (d .0)))
+
+-- what each phase asks
+module _ (p : Phase) (c : Core) (masters : List ℕ) where
+  even-awaited : p ≡ Awaited → oddIn p c masters ≡ false → 0 < queueOf (c .doing .served) c .unconfirmed
+  unfolding oddIn
+  even-awaited h e = omega (arith, false-same (queueOf (c .doing .served) c .unconfirmed) 0 (rw h at e))
+
+  even-sdn : p ≡ Sdn → oddIn p c masters ≡ false → 0 < queueOf (c .doing .served) c .unconfirmed
+  unfolding oddIn
+  even-sdn h e = omega (arith, false-same (queueOf (c .doing .served) c .unconfirmed) 0 (rw h at e))
+
+  even-check : p ≡ Check → oddIn p c masters ≡ false → nextOf masters (c .ts .0) ≡ c .ts .0 → ⊥
+  unfolding oddIn
+  even-check h e = false-same _ _ (rw h at e)
+
+  even-self : p ≡ ToSelf → oddIn p c masters ≡ false → nextOf masters (c .ts .0) ≡ c .ts .0
+  unfolding oddIn
+  even-self h e = true-same _ _ (not-turned _ (rw h at e))
+
+module _ (c : Core) (masters started : List ℕ) (k : Kept) (e : lawless c masters started k ≡ false) where
+  lawful-started : unstarted c masters started ≡ false
+  unfolding lawless
+  lawful-started = is-said (unrefused _ _ e .0)
+
+  lawful-addressed : misaddressed (c .ps .0) (c .stranger .0) (k .source .0) ≡ false
+  unfolding lawless
+  lawful-addressed =
+      let a = unrefused _ _ e in
+      is-said (unrefused _ _ (a .1) .0)
+
+  lawful-counted : overcounted (c .high) (c .low) (k .length) ≡ false
+  unfolding lawless
+  lawful-counted =
+      let a = unrefused _ _ e in
+      let b = unrefused _ _ (a .1) in
+      is-said (unrefused _ _ (b .1) .0)
+
+  lawful-phase : oddIn (c .doing .phase) c masters ≡ false
+  unfolding lawless
+  lawful-phase =
+      let a = unrefused _ _ e in
+      let b = unrefused _ _ (a .1) in
+      unrefused _ _ (b .1) .1
+
+  pub lawful : Lawful c
+  lawful =
+      let s = started-startable c masters started lawful-started in
+      let n = counted (c .high) (c .low) (k .length) lawful-counted in
+      record { settings = startable-settings (c .settings) (c .ts .0) masters s; retries = startable-retries (c .settings) (c .ts .0) masters s; ts = startable-ts (c .settings) (c .ts .0) masters s; high = n .0; low = n .1 .0 }
+
+  -- TS is in the set in force and in the one kept for reset
+  pub lawful-member : member masters (c .ts .0) ≡ true
+  lawful-member = startable-member (c .settings) (c .ts .0) masters (started-startable c masters started lawful-started)
+
+  pub lawful-kept : member started (c .ts .0) ≡ true
+  lawful-kept = started-member c masters started lawful-started
+
+  -- the addresses and the remembered reply
+  pub lawful-ps : c .ps .0 ≤ 126
+  lawful-ps = addressed (c .ps .0) (c .stranger .0) (k .source .0) lawful-addressed .0
+
+  pub lawful-stranger : c .stranger .0 ≤ 127
+  lawful-stranger = addressed (c .ps .0) (c .stranger .0) (k .source .0) lawful-addressed .1 .0
+
+  pub lawful-source : k .source .0 ≤ 127
+  lawful-source = addressed (c .ps .0) (c .stranger .0) (k .source .0) lawful-addressed .1 .1
+
+  pub lawful-reply : k .length ≤ 255
+  lawful-reply = counted (c .high) (c .low) (k .length) lawful-counted .1 .1
+
+  -- while a request is sent, it is in the queue being served
+  pub lawful-awaited : c .doing .phase ≡ Awaited → 0 < queueOf (c .doing .served) c .unconfirmed
+  lawful-awaited h = even-awaited (c .doing .phase) c masters h lawful-phase
+
+  pub lawful-sdn : c .doing .phase ≡ Sdn → 0 < queueOf (c .doing .served) c .unconfirmed
+  lawful-sdn h = even-sdn (c .doing .phase) c masters h lawful-phase
+
+  -- the token whose pass is checked goes to another, the one to self to TS
+  pub lawful-check : c .doing .phase ≡ Check → nextOf masters (c .ts .0) ≡ c .ts .0 → ⊥
+  lawful-check h = even-check (c .doing .phase) c masters h lawful-phase
+
+  pub lawful-self : c .doing .phase ≡ ToSelf → nextOf masters (c .ts .0) ≡ c .ts .0
+  lawful-self h = even-self (c .doing .phase) c masters h lawful-phase
+
+-- each queue of a lawful core is ruled
+pub ruled-of : (c : Core) (p : Priority) → Lawful c → Ruled (queueOf p c)
+unfolding queueOf
+ruled-of c High l = l .high
+ruled-of c Low l = l .low
+
+-- ---- 29, by the records
+-- the record in flight as the code comes by it
+row-high : (p : Priority) (high low : List ℕ) → p ≡ High → rowBy p high low ≡ high
+unfolding rowBy
+row-high p high low h = rw h
+
+row-low : (p : Priority) (high low : List ℕ) → p ≡ Low → rowBy p high low ≡ low
+unfolding rowBy
+row-low p high low h = rw h
+
+module _ (c : Core) (high low : List ℕ) {r : Record} {p : ℕ} {q : Queue} (a : q ≡ queueOf (c .doing .served) c) (b : p ≡ current q) where
+  pub flight-high : c .doing .served ≡ High → r ≡ at high p → r .service ≡ inFlight c high low .service
+  unfolding inFlight
+  flight-high h e = rw (e, b, a, row-high _ high low h)
+
+  pub flight-low : c .doing .served ≡ Low → r ≡ at low p → r .service ≡ inFlight c high low .service
+  unfolding inFlight
+  flight-low h e = rw (e, b, a, row-low _ high low h)
+
+like-awaited : (p : Phase) (service : ℕ) → p ≡ Awaited → unlikeIn p service ≡ false → service ≡ SDN → ⊥
+unfolding unlikeIn
+like-awaited p service h e = false-same service SDN (rw h at e)
+
+like-sdn : (p : Phase) (service : ℕ) → p ≡ Sdn → unlikeIn p service ≡ false → service ≡ SDN
+unfolding unlikeIn
+like-sdn p service h e = true-same service SDN (not-turned _ (rw h at e))
+
+module _ (c : Core) (high low : List ℕ) (e : unsound c high low ≡ false) where
+  sound-high : soundIn (c .ts .0) (c .high) high ≡ true
+  unfolding unsound
+  sound-high = is-said (granted _ _ e .0)
+
+  sound-low : soundIn (c .ts .0) (c .low) low ≡ true
+  unfolding unsound
+  sound-low =
+      let a = granted _ _ e in
+      is-said (granted _ _ (a .1) .0)
+
+  like-phase : unlikeIn (c .doing .phase) (inFlight c high low .service) ≡ false
+  unfolding unsound
+  like-phase =
+      let a = granted _ _ e in
+      granted _ _ (a .1) .1
+
+-- ---- no refusal
+module _ (out first second : ℕ) (c : Core) (masters started : List ℕ) (k : Kept) (high low : Rows) (e : refusalIn out first second c masters started k high low ≡ 0) where
+  tests : (unlent (c .high) high ≡ false) × ((unlent (c .low) low ≡ false) × ((cramped out first second ≡ false) × ((lawless c masters started k ≡ false) × (unsound c (high .row) (low .row) ≡ false))))
+  unfolding refusalIn
+  tests =
+      let a = passed _ _ _ (omega arith) e in
+      let b = passed _ _ _ (omega arith) (a .1) in
+      let d = passed _ _ _ (omega arith) (b .1) in
+      let f = passed _ _ _ (omega arith) (d .1) in
+      let g = passed _ _ _ (omega arith) (f .1) in
+      (is-said (a .0), (is-said (b .0), (is-said (d .0), (is-said (f .0), is-said (g .0)))))
+
+  not-lawless : lawless c masters started k ≡ false
+  not-lawless = tests .1 .1 .1 .0
+
+  not-unsound : unsound c (high .row) (low .row) ≡ false
+  not-unsound = tests .1 .1 .1 .1
+
+  pub sited : Sited c high low
+  sited =
+      record {
+        core = lawful c masters started k not-lawless;
+        lentHigh = lent-rows (c .high) high (tests .0);
+        lentLow = lent-rows (c .low) low (tests .1 .0);
+        soundHigh = sound-high c (high .row) (low .row) not-unsound;
+        soundLow = sound-low c (high .row) (low .row) not-unsound;
+      }
+
+  -- the buffers and the remembered reply
+  pub output-long : 255 ≤ out
+  output-long = roomy out first second (tests .1 .1 .0) .0
+
+  pub first-short : first ≤ 244
+  first-short = roomy out first second (tests .1 .1 .0) .1 .0
+
+  pub second-short : second ≤ 244
+  second-short = roomy out first second (tests .1 .1 .0) .1 .1
+
+  pub reply-short : k .length ≤ 255
+  reply-short = lawful-reply c masters started k not-lawless
+
+  -- a request is being sent: it is in the queue, and it is no SDN while its reply is awaited, and one while that goes out
+  pub awaited-queued : c .doing .phase ≡ Awaited → 0 < queueOf (c .doing .served) c .unconfirmed
+  awaited-queued h = lawful-awaited c masters started k not-lawless h
+
+  pub awaited-no-sdn : c .doing .phase ≡ Awaited → inFlight c (high .row) (low .row) .service ≡ SDN → ⊥
+  awaited-no-sdn h = like-awaited (c .doing .phase) _ h (like-phase c (high .row) (low .row) not-unsound)
+
+  pub sdn-queued : c .doing .phase ≡ Sdn → 0 < queueOf (c .doing .served) c .unconfirmed
+  sdn-queued h = lawful-sdn c masters started k not-lawless h
+
+  pub sdn-is-sdn : c .doing .phase ≡ Sdn → inFlight c (high .row) (low .row) .service ≡ SDN
+  sdn-is-sdn h = like-sdn (c .doing .phase) _ h (like-phase c (high .row) (low .row) not-unsound)
+
+  -- the token whose pass is checked goes to another, the one to self to TS
+  pub check-another : c .doing .phase ≡ Check → nextOf masters (c .ts .0) ≡ c .ts .0 → ⊥
+  check-another h = lawful-check c masters started k not-lawless h
+
+  pub self-itself : c .doing .phase ≡ ToSelf → nextOf masters (c .ts .0) ≡ c .ts .0
+  self-itself h = lawful-self c masters started k not-lawless h

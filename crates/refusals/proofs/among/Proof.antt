@@ -1,0 +1,18 @@
+-- `refusals::among` meets its contract. Assumes nothing.
+use mathlib.Core.Path.{sym}
+use Rattle.choice.proofs.Rules.{same-true, same-false}
+use Rattle.ring.specs.Ring.{member}
+use borrow.Author.Needs.{needs}
+use Rattle.refusals.proofs.among.Statement.{statement}
+use Rattle.refusals.proofs.among.Tie as tie
+
+returns : tie.Need-returns
+unfolding member
+returns c = sym (same-true (rw (← c .before .before .wide .ensures .0) (c .if1 .taken)))
+
+returns-2 : tie.Need-returns-2
+unfolding member
+returns-2 c = sym (same-false (rw (← c .before .before .wide .ensures .0) (c .if1 .left)))
+
+pub among-spec : {M : Type 1} → statement M
+among-spec = tie.close (tie.spec (λ c κs. search needs) (λ c. search needs) returns returns-2)
