@@ -1,0 +1,22 @@
+-- `serve::pass_to` meets its contract. Assumes nothing.
+use Rattle.state.specs.Pass.{passCore, passEvents, tokenTo}
+use Rattle.serve.proofs.Telling.{sends-one}
+use borrow.Author.Needs.{needs}
+use Rattle.serve.proofs.pass_to.Statement.{statement}
+use Rattle.serve.proofs.pass_to.Tie as tie
+
+returns : tie.Need-returns
+unfolding passCore passEvents tokenTo
+returns c =
+    sends-one _ _ _ _ (cc (c .with-doing .ensures, c .before .passing .ensures)) (c .before .before .wait-after .ensures) (c .before .before .before .before .before .lay-token .ensures)
+
+pub pass-to-spec : {M : Type 1} → statement M
+pass-to-spec =
+    tie.close
+    (tie.spec
+    (λ c κs. search needs)
+    (λ c κs. search needs)
+    (λ c κs. search needs)
+    (λ c κs. search needs)
+    (λ c. search needs)
+    returns)
