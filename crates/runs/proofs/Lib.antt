@@ -1,0 +1,15 @@
+pub mod Cases
+pub mod Refused
+pub mod Places
+pub mod Fates
+pub mod Standing
+pub mod Drained
+pub mod Steps
+pub mod Filed
+pub mod Poise
+pub mod Order
+pub mod Heard
+pub mod Ordered
+pub mod Never
+pub mod Start
+pub mod Demand3
