@@ -8,8 +8,10 @@ mod draft;
 mod events;
 mod frame;
 mod hold;
+mod lends;
 mod lister;
 mod nonsense;
+mod parts;
 mod pass;
 mod peers;
 mod queue;
@@ -18,9 +20,12 @@ mod reach;
 mod replay;
 mod request;
 mod ring;
+mod rings;
+mod rows;
 mod runs;
 mod sample;
 mod script;
+mod settings;
 mod starts;
 mod station;
 mod submits;
@@ -39,6 +44,10 @@ reference reach               lines of call, tab, answer on standard input: what
 reference list                a capture on standard input: its listing
 reference capture SEED KIND   a seeded capture: end, short, long, count or full
 reference sample NAME         a sample capture: document, run, damaged or cut
+reference times SEED COUNT    a script of times, with COUNT seeded settings
+reference rings SEED COUNT    a script of the search for NS and PS, with COUNT seeded sets of many masters
+reference rows SEED CALLS     a script of calls on rows, with CALLS in lawful rows and as many in damaged ones
+reference parts               a script of times, rings or rows on standard input: its answers
 reference runs SEED CALLS     a replay script of many stations, with CALLS lines at least
 reference replay              a replay script on standard input: its answers
 reference transitions         a replay script on standard input: how often it took each transition
@@ -63,11 +72,18 @@ fn run() -> Result<bool, String> {
     let output = match words[..] {
         ["frames", seed, count] => lines(script::frames(number(seed)?, number(count)? as usize)),
         ["lists", seed, count] => lines(script::lists(number(seed)?, number(count)? as usize)),
-        ["answer"] => lines(answers()?),
+        ["answer"] => lines(answers(answer::answer)?),
         ["reach"] => return reached(),
         ["list"] => lister::list(&standard_input()?).into_bytes(),
         ["capture", seed, kind] => capture::of_kind(kind, number(seed)?).ok_or(USAGE)?,
         ["sample", name] => sample::of_name(name).ok_or(USAGE)?,
+        ["times", seed, count] => lines(settings::times(number(seed)?, number(count)? as usize)),
+        ["rings", seed, count] => lines(rings::rings(number(seed)?, number(count)? as usize)),
+        ["rows", seed, calls] => lines(lends::rows(number(seed)?, number(calls)? as usize)),
+        ["parts"] => {
+            let mut parts = parts::Parts::default();
+            lines(answers(|call| parts.answer(call))?)
+        }
         ["runs", seed, calls] => lines(runs::runs(number(seed)?, number(calls)? as usize)),
         ["replay"] => replay::Replay::default().answers(&standard_input()?).into_bytes(),
         ["transitions"] => return transitions_taken(),
@@ -93,9 +109,10 @@ fn lines(lines: Vec<String>) -> Vec<u8> {
     text
 }
 
-fn answers() -> Result<Vec<String>, String> {
+/// What `answer` says to each line of standard input.
+fn answers(mut answer: impl FnMut(&str) -> Result<String, String>) -> Result<Vec<String>, String> {
     let calls = io::stdin().lock().lines();
-    calls.map(|call| answer::answer(&call.map_err(|error| error.to_string())?)).collect()
+    calls.map(|call| answer(&call.map_err(|error| error.to_string())?)).collect()
 }
 
 fn reached() -> Result<bool, String> {

@@ -4,7 +4,8 @@ pub fn hex(octets: &[u8]) -> String {
     if octets.is_empty() {
         return "-".to_string();
     }
-    octets.iter().map(|octet| format!("{octet:02X}")).collect()
+    let digit = |half: u8| char::from(b"0123456789ABCDEF"[usize::from(half)]);
+    octets.iter().flat_map(|octet| [digit(octet >> 4), digit(octet & 15)]).collect()
 }
 
 pub fn unhex(word: &str) -> Result<Vec<u8>, String> {

@@ -46,7 +46,15 @@ impl Settings {
     pub fn tsl(&self) -> u32 {
         2 * self.ttd + 11 + self.tsm() + self.max_tsdr.max(self.tid1())
     }
+
+    /// TTO, which no rule of the base station uses.
+    pub fn tto(&self, address: u8) -> u32 {
+        6 * self.tsl() + 2 * u32::from(address) * self.tsl()
+    }
 }
+
+pub const STANDARD: Settings =
+    Settings { tset: 20, tqui: 0, min_tsdr: 20, max_tsdr: 400, ttd: 1, ttr: 10_000, retry_limit: 1 };
 
 /// The time from an earlier clock to a later one, modulo 2^32: a clock that goes back is a long wait.
 pub fn elapsed(earlier: u32, later: u32) -> u32 {
@@ -57,21 +65,13 @@ pub fn elapsed(earlier: u32, later: u32) -> u32 {
 mod tests {
     use super::*;
 
-    const STANDARD: Settings =
-        Settings { tset: 20, tqui: 0, min_tsdr: 20, max_tsdr: 400, ttd: 1, ttr: 10_000, retry_limit: 1 };
-
-    /// TTO, which no rule of the base station uses.
-    fn tto(settings: &Settings, address: u32) -> u32 {
-        6 * settings.tsl() + 2 * address * settings.tsl()
-    }
-
     /// Case 9 of document 01.
     #[test]
     fn standard_settings() {
         let standard = STANDARD;
         assert!(standard.in_rule());
         assert_eq!((standard.tsm(), standard.tid1(), standard.tid2()), (42, 75, 400));
-        assert_eq!((standard.tsl(), tto(&standard, 2)), (455, 4550));
+        assert_eq!((standard.tsl(), standard.tto(2)), (455, 4550));
     }
 
     #[test]

@@ -1,0 +1,12 @@
+-- `rowcalls::flat_queue` meets its contract: its own words. Assumes nothing.
+use Rattle.rowcalls.specs.Calls.{flatQueue}
+use mathlib.Core.Path.{refl}
+use Rattle.rowcalls.proofs.flat_queue.Statement.{statement}
+use Rattle.rowcalls.proofs.flat_queue.Tie as tie
+
+returns : tie.Need-returns
+unfolding flatQueue
+returns c = refl
+
+pub flat-queue-spec : {M : Type 1} → statement M
+flat-queue-spec = tie.close (tie.spec returns)

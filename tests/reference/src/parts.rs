@@ -1,0 +1,213 @@
+//! What the reference answers to a script of the station's parts, a line for each call. Words are separated by one
+//! space, numbers are decimal, octets upper-case hex, `-` is none. Calls on a row go to the row that the last `row`
+//! laid out: its queue's numbers, its records' octets (7 a place) and how many octets of AA its data area has.
+//! QUEUE is the first place in use and how many requests are confirmed and how many not. TIMES are TSM, Tid1, Tid2,
+//! TSL, TTO and the waits before a reply, after an SDN and before others, each 0 when refused.
+//!
+//! | Call | Answers |
+//! |---|---|
+//! | `settings TSET TQUI MINTSDR MAXTSDR TTD TTR RETRIES TS` | the refusal or 0, and TIMES |
+//! | `left CLOCK ACCEPTANCE TTR` | 1 if time is left, else 0 |
+//! | `ring TS MASTERS` | NS and PS, or 255 for each |
+//! | `row TS PLACES FIRST CONFIRMED UNCONFIRMED RECORDS AREA` | `row` |
+//! | `submit SERVICE DA DSAP SSAP DATA` | `ok PLACE QUEUE` or `refused N QUEUE` |
+//! | `confirm STATUS COUNT DATA`, `drain COUNT` | `ok 0 QUEUE` or `refused N QUEUE` |
+//! | `collect` | `handed PLACE SERVICE DA DSAP SSAP LENGTH STATUS COUNT DATA QUEUE` or `refused N QUEUE` |
+//! | `sound` | the refusal of the queue or its unconfirmed records or 0, and QUEUE |
+//! | `look` | the data area |
+
+use std::str::FromStr;
+
+use crate::queue::Refusal;
+use crate::ring::{Ring, ADDRESSES};
+use crate::rows::{Layout, Record, Row};
+use crate::text::{hex, optional, unhex};
+use crate::times::{elapsed, Settings};
+
+/// Answers call after call.
+pub struct Parts {
+    row: Row,
+}
+
+impl Default for Parts {
+    /// No row is lent yet.
+    fn default() -> Parts {
+        let records = Vec::new();
+        Parts {
+            row: Row::new(Layout {
+                own: 0,
+                places: 0,
+                first: 0,
+                confirmed: 0,
+                unconfirmed: 0,
+                records,
+                area: 0,
+            }),
+        }
+    }
+}
+
+impl Parts {
+    pub fn answer(&mut self, call: &str) -> Result<String, String> {
+        let words: Vec<&str> = call.split(' ').collect();
+        match words[..] {
+            ["settings", tset, tqui, min_tsdr, max_tsdr, ttd, ttr, retry_limit, address] => {
+                let settings = Settings {
+                    tset: number(tset)?,
+                    tqui: number(tqui)?,
+                    min_tsdr: number(min_tsdr)?,
+                    max_tsdr: number(max_tsdr)?,
+                    ttd: number(ttd)?,
+                    ttr: number(ttr)?,
+                    retry_limit: number(retry_limit)?,
+                };
+                Ok(say_times(&settings, number(address)?))
+            }
+            ["left", clock, acceptance, ttr] => {
+                let left = elapsed(number(acceptance)?, number(clock)?) < number(ttr)?;
+                Ok(u8::from(left).to_string())
+            }
+            ["ring", address, masters] => {
+                let masters = masters.split(',').map(number).collect::<Result<Vec<u8>, _>>()?;
+                Ok(say_ring(number(address)?, &masters))
+            }
+            ["row", ref layout @ ..] => {
+                self.row = Row::new(layout_of(layout)?);
+                Ok("row".to_string())
+            }
+            ["look"] => Ok(hex(&self.row.area)),
+            _ => self.answer_queue(&words, call),
+        }
+    }
+
+    /// A call on the row: its answer ends with the queue.
+    fn answer_queue(&mut self, words: &[&str], call: &str) -> Result<String, String> {
+        let answer = match *words {
+            ["submit", service, destination, to, from, data] => {
+                let record = Record {
+                    place: 0,
+                    service: number(service)?,
+                    destination: number(destination)?,
+                    to: point(to)?,
+                    from: point(from)?,
+                    length: 0,
+                    status: 0,
+                    count: 0,
+                };
+                say(self.row.submit(record, &unhex(data)?).map(|place| format!("ok {place}")))
+            }
+            ["confirm", status, count, data] => {
+                let confirmed = self.row.confirm(number(status)?, number(count)?, &unhex(data)?);
+                say(confirmed.map(|()| "ok 0".to_string()))
+            }
+            ["drain", count] => say(self.row.drain(number(count)?).map(|()| "ok 0".to_string())),
+            ["collect"] => say(self.row.collect().map(|(record, data)| say_record(&record, data))),
+            ["sound"] => self.row.sound().map_or_else(|refusal| refusal.to_string(), |()| "0".to_string()),
+            _ => return Err(format!("no call: {call}")),
+        };
+        let (first, confirmed, unconfirmed) = self.row.counts();
+        Ok(format!("{answer} {first} {confirmed} {unconfirmed}"))
+    }
+}
+
+fn number<N: FromStr>(word: &str) -> Result<N, String> {
+    word.parse().map_err(|_| format!("no number for its place: {word}"))
+}
+
+fn point(word: &str) -> Result<Option<u8>, String> {
+    match word {
+        "-" => Ok(None),
+        word => number(word).map(Some),
+    }
+}
+
+fn layout_of(words: &[&str]) -> Result<Layout, String> {
+    let &[own, places, first, confirmed, unconfirmed, records, area] = words else {
+        return Err("no row".to_string());
+    };
+    Ok(Layout {
+        own: number(own)?,
+        places: number(places)?,
+        first: number(first)?,
+        confirmed: number(confirmed)?,
+        unconfirmed: number(unconfirmed)?,
+        records: unhex(records)?,
+        area: number(area)?,
+    })
+}
+
+fn say_times(settings: &Settings, address: u8) -> String {
+    if !settings.in_rule() || address >= ADDRESSES {
+        return "20 0 0 0 0 0 0 0 0".to_string();
+    }
+    let (tsm, tid1, tid2) = (settings.tsm(), settings.tid1(), settings.tid2());
+    let (tsl, tto) = (settings.tsl(), settings.tto(address));
+    format!("0 {tsm} {tid1} {tid2} {tsl} {tto} {} {tid2} {tid1}", settings.min_tsdr)
+}
+
+fn say_ring(address: u8, masters: &[u8]) -> String {
+    if address >= ADDRESSES {
+        return "255 255".to_string();
+    }
+    let ring = Ring::of(masters);
+    format!("{} {}", ring.next(address), ring.previous(address))
+}
+
+fn say(outcome: Result<String, Refusal>) -> String {
+    outcome.unwrap_or_else(|refusal| format!("refused {refusal}"))
+}
+
+fn say_record(record: &Record, data: &[u8]) -> String {
+    let Record { place, service, destination, length, status, count, .. } = record;
+    let (to, from) = (optional(record.to), optional(record.from));
+    format!("handed {place} {service} {destination} {to} {from} {length} {status} {count} {}", hex(data))
+}
+
+#[cfg(test)]
+mod tests {
+    use super::*;
+
+    fn answers(calls: &[&str]) -> Vec<String> {
+        let mut parts = Parts::default();
+        calls.iter().map(|call| parts.answer(call).unwrap()).collect()
+    }
+
+    /// Cases 9 and 10 of document 01, and its own example of a ring.
+    #[test]
+    fn document() {
+        let calls =
+            ["settings 20 0 20 400 1 10000 1 2", "left 1099 100 1000", "left 1100 100 1000", "ring 2 2,5"];
+        assert_eq!(answers(&calls), ["0 42 75 400 455 4550 20 400 75", "1", "0", "5 5"]);
+    }
+
+    #[test]
+    fn a_row() {
+        let calls = [
+            "row 2 1 0 0 0 AAAAAAAAAAAAAA 246",
+            "submit 12 7 60 62 0102",
+            "submit 12 7 60 62 0102",
+            "sound",
+            "confirm 9 1 -",
+            "collect",
+            "collect",
+            "row 2 1 0 1 0 AAAAAAAAAAAAAA 245",
+            "collect",
+            "row 2 1 0 1 0 0C073C3E040405 246",
+            "collect",
+        ];
+        let expected = [
+            "row",
+            "ok 0 0 0 1",
+            "refused 27 0 0 1",
+            "0 0 0 1",
+            "ok 0 0 1 0",
+            "handed 0 12 7 60 62 0 9 1 - 0 0 0",
+            "refused 28 0 0 0",
+            "row",
+            "refused 21 0 1 0",
+            "row",
+            "refused 29 0 1 0",
+        ];
+        assert_eq!(answers(&calls), expected);
+    }
+}
