@@ -71,6 +71,17 @@ unfolding pick
 pick-itself true = refl
 pick-itself false = refl
 
+-- and turned round
+pub pick-not : (b : Bool) → pick b false true ≡ not b
+unfolding pick
+pick-not true = refl
+pick-not false = refl
+
+pub not-turned : (b : Bool) → pick b false true ≡ false → b ≡ true
+unfolding pick
+not-turned true e = refl
+not-turned false e = sym e
+
 -- ---- the rules, for a test of numbers
 pub if-less : {A : Type 0} {a b : ℕ} {x z : A} (y : A) → a < b → z ≡ x → z ≡ pick (less a b) x y
 if-less _ h e = e ∙ sym (pick-true _ _ (less-true h))
@@ -91,15 +102,19 @@ pub unless-same : {A : Type 0} {a b : ℕ} {y z : A} (x : A) → (a ≡ b → �
 unless-same _ h e = e ∙ sym (pick-false _ _ (same-false h))
 
 -- ---- the rules, for a test that a callee answered: r is its result, and the branch was taken or left on r or on its negation
-said-is : {r b : Bool} → r ≡ b → said b ≡ r
+pub said-true : {r b : Bool} → r ≡ b → r ≡ true → said b ≡ true
 unfolding said
-said-is e = sym e
+said-true e h = sym e ∙ h
+
+pub said-false : {r b : Bool} → r ≡ b → r ≡ false → said b ≡ false
+unfolding said
+said-false e h = sym e ∙ h
 
 pub asked-true : {A : Type 0} {r b : Bool} {x z : A} (y : A) → r ≡ b → r ≡ true → z ≡ x → z ≡ pick (said b) x y
-asked-true _ e h q = q ∙ sym (pick-true _ _ (said-is e ∙ h))
+asked-true _ e h q = q ∙ sym (pick-true _ _ (said-true e h))
 
 pub asked-false : {A : Type 0} {r b : Bool} {y z : A} (x : A) → r ≡ b → r ≡ false → z ≡ y → z ≡ pick (said b) x y
-asked-false _ e h q = q ∙ sym (pick-false _ _ (said-is e ∙ h))
+asked-false _ e h q = q ∙ sym (pick-false _ _ (said-false e h))
 
 pub denied-true : {A : Type 0} {r b : Bool} {y z : A} (x : A) → r ≡ b → not r ≡ true → z ≡ y → z ≡ pick (said b) x y
 denied-true {r = r} _ e h q = asked-false _ e (not-true r h) q

@@ -1,3 +1,4 @@
 pub mod Frame
 pub mod Lengths
 pub mod Answers
+pub mod Laying

@@ -1,6 +1,7 @@
 -- `exchange::lay_request` meets its contract: the writer does not refuse a fit request. Assumes nothing.
 use mathlib.Core.Path.{sym, _∙_}
-use Rattle.exchange.proofs.Writable.{laying-request, never, lays}
+use Rattle.write.proofs.Laying.{never, lays}
+use Rattle.exchange.proofs.Writable.{laying-request}
 use borrow.Author.Needs.{needs}
 use Rattle.exchange.proofs.lay_request.Statement.{statement}
 use Rattle.exchange.proofs.lay_request.Tie as tie
@@ -11,7 +12,7 @@ returns c =
     let k = b .before .before .before .before .before in
     let a = k .args in
     let h = b .before .before .head-for .ensures in
-    let w = laying-request (a .ts) (a .p) (a .r) (a .m) (a .«data» .now) (a .out .now) (k .pre .0) (k .pre .1 .0) (k .pre .1 .1) in
+    let w = laying-request (a .ts) (a .p) (a .r) (a .m) (a .«data» .now) (k .pre .1 .0) (a .out .now) (k .pre .0) (k .pre .1 .1) in
     never w (sym (c .enum-told .given .1) ∙ rw (← h) (b .write-frame .ensures .0))
 
 returns-2 : tie.Need-returns-2
@@ -20,7 +21,7 @@ returns-2 c =
     let k = b .before .before .before .before .before in
     let a = k .args in
     let h = b .before .before .head-for .ensures in
-    let w = laying-request (a .ts) (a .p) (a .r) (a .m) (a .«data» .now) (a .out .now) (k .pre .0) (k .pre .1 .0) (k .pre .1 .1) in
+    let w = laying-request (a .ts) (a .p) (a .r) (a .m) (a .«data» .now) (k .pre .1 .0) (a .out .now) (k .pre .0) (k .pre .1 .1) in
     lays w (sym (c .before .n .given .1) ∙ rw (← h) (b .write-frame .ensures .0))
     (rw (← h) (b .write-frame .ensures .1))
 

@@ -1,6 +1,6 @@
 -- `exchange::lay_token` meets its contract: the writer does not refuse a token between stations. Assumes nothing.
 use mathlib.Core.Path.{sym, _∙_}
-use Rattle.exchange.proofs.Writable.{laying-token, never, lays}
+use Rattle.write.proofs.Laying.{laying-token, never, lays}
 use borrow.Author.Needs.{needs}
 use Rattle.exchange.proofs.lay_token.Statement.{statement}
 use Rattle.exchange.proofs.lay_token.Tie as tie
