@@ -28,8 +28,7 @@ use Rattle.state.specs.declared.Priority.the-variants.{High, Low}
 use Rattle.state.specs.declared.Hold.{Hold}
 use Rattle.state.specs.declared.Core.{Core}
 use Rattle.state.specs.declared.Memory.{Memory}
-use Rattle.state.specs.declared.Started.{Started}
-use Rattle.state.specs.declared.Started.the-variants.{Refused as Unstarted, Station}
+use Rattle.state.specs.declared.State.{State}
 use Rattle.state.specs.declared.Outcome.the-variants.{Gone}
 use Rattle.state.specs.World.{Rows, Site, World, Event, Done, Called, accepted, ends, confirmed, collected, resets, refused, still, done, andThen, withQueue, queueOf, withCore, rowsOf, withRows, withSite, withMemory, stateOf}
 use Rattle.state.specs.Request.{UNKNOWN, recordOf, judged}
@@ -88,6 +87,11 @@ freshWorld c masters points octets high low =
       points = points;
       memory = forgotten octets;
     }
+
+-- "start: the number alone", or the state
+pub data Started : Type 0 where
+  Unstarted : ℕ → Started
+  Station : State → Started
 
 unfoldable pub start : Settings → ℕ → List ℕ → List ℕ → ℕ → ℕ → Started
 start s ts masters points high low =

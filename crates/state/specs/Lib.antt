@@ -6,3 +6,9 @@ pub mod Answering
 pub mod Refusals
 pub mod Calls
 pub mod Told
+pub mod Runs
+pub mod Fate
+pub mod Twelve
+pub mod Counts
+pub mod Waits
+pub mod Precedence

@@ -3,7 +3,7 @@
 use Prim.Native.Nat.{ℕ}
 use mathlib.Core.Path.{_≡_}
 use mathlib.Core.List.{List, [], _∷_}
-use lib.ListN.{length}
+use lib.ListN.{length, replicate}
 use Rattle.laid.specs.Laid.{laid, Lays}
 use Rattle.request.specs.declared.Record.{Record}
 use Rattle.request.specs.Record.{NONE, WAITING}
@@ -20,14 +20,15 @@ use Rattle.state.specs.declared.Kept.{Kept}
 use Rattle.state.specs.declared.Outcome.{Outcome}
 use Rattle.state.specs.declared.Moved.{Moved}
 use Rattle.state.specs.declared.Spoken.{Spoken}
-use Rattle.state.specs.declared.Turned.{Turned}
+use Rattle.state.specs.declared.Heard.{Heard}
 use Rattle.state.specs.declared.Accepted.{Accepted}
-use Rattle.state.specs.declared.WasReset.{WasReset}
+use Rattle.state.specs.declared.Renewed.{Renewed}
 use Rattle.state.specs.declared.HandedBack.{HandedBack}
 use Rattle.state.specs.declared.Answer.{Answer}
 use Rattle.state.specs.Request.{close}
 use Rattle.state.specs.Pass.{recheck}
-use Rattle.state.specs.Calls.{noRows}
+use Rattle.times.specs.declared.Settings.{Settings}
+use Rattle.state.specs.Calls.{Started, Unstarted, Station, noRows, emptyQueue, freshCore, freshWorld}
 use Rattle.state.specs.World.{Rows, World, Event, Done, Called, siteOf, rowsOf, worldOf, stateOf, stateWith, withQueue, accepted, begins, ends, sends, confirmed, collected, indicated, resets, refused}
 
 pub record Telling : Type 0 where
@@ -109,19 +110,6 @@ pub record Says (k : Kept) (e : List Event) (out : List ℕ) (r : Spoken) (out�
   pub indication : r .indication ≡ telling e .indication
   pub laid : Lays out 0 (telling e .octets) 255 (r .length) out′
 
--- of a frame, but for the set of masters as started, which it leaves alone
-pub record Hears (d : List ℕ → Called) (points out : List ℕ) (r : Turned) (masters marks octets : List ℕ) (high low : Rows) (out′ : List ℕ) : Type 0 where
-  pub world : (t : List ℕ)
-      → record {
-        site = siteOf (r .core) masters marks high low;
-        started = t;
-        points = points;
-        memory = record { kept = r .kept; octets = octets };
-      } ≡ d t .world
-  pub wait : (t : List ℕ) → r .wait .0 ≡ telling (d t .events) .wait
-  pub indication : (t : List ℕ) → r .indication ≡ telling (d t .events) .indication
-  pub laid : (t : List ℕ) → Lays out 0 (telling (d t .events) .octets) 255 (r .length) out′
-
 -- ---- what a call answers, and all that it leaves in what was lent: the rows with their data, and the output
 pub record Leaves (A : Type 0) : Type 0 where
   pub answer : A
@@ -131,6 +119,41 @@ pub record Leaves (A : Type 0) : Type 0 where
 
 abbrev pub leaves : {A : Type 0} → A → Rows → Rows → List ℕ → Leaves A
 leaves a high low out = record { answer = a; high = high; low = low; out = out }
+
+-- of frame, sent and slot where the arrays of the state are lent
+pub record Stands : Type 0 where
+  pub answer : Heard
+  pub masters : List ℕ
+  pub started : List ℕ
+  pub marks : List ℕ
+  pub points : List ℕ
+  pub octets : List ℕ
+  pub high : Rows
+  pub low : Rows
+  pub out : List ℕ
+
+abbrev pub stands : Heard → List ℕ → List ℕ → List ℕ → List ℕ → List ℕ → Rows → Rows → List ℕ → Stands
+stands a masters started marks points octets high low out =
+    record { answer = a; masters = masters; started = started; marks = marks; points = points; octets = octets; high = high; low = low; out = out }
+
+abbrev pub worldIn : Core → Kept → List ℕ → List ℕ → List ℕ → List ℕ → List ℕ → Rows → Rows → World
+worldIn c k masters started marks points octets high low =
+    record { site = siteOf c masters marks high low; started = started; points = points; memory = record { kept = k; octets = octets } }
+
+unfoldable pub heardOf : Called → Heard
+heardOf d =
+    record {
+      refused = telling (d .events) .refused;
+      core = d .world .site .core;
+      kept = d .world .memory .kept;
+      length = length (telling (d .events) .octets);
+      wait = record { 0 = telling (d .events) .wait };
+      indication = telling (d .events) .indication;
+    }
+
+unfoldable pub standing : Called → List ℕ → Stands
+standing d out =
+    stands (heardOf d) (d .world .site .masters) (d .world .started) (d .world .site .marks) (d .world .points) (d .world .memory .octets) (d .world .site .high) (d .world .site .low) (laid out 0 (telling (d .events) .octets))
 
 -- of frame, sent and slot
 unfoldable pub answerOf : Called → Answer
@@ -148,8 +171,31 @@ told d out =
     leaves (answerOf d) (d .world .site .high) (d .world .site .low) (laid out 0 (telling (d .events) .octets))
 
 -- of reset, which has no output
-unfoldable pub resetOf : Called → WasReset
-resetOf d = record { refused = telling (d .events) .refused; state = stateOf (d .world) }
+unfoldable pub resetOf : Called → Leaves Renewed
+resetOf d =
+    leaves (record { refused = telling (d .events) .refused; state = stateOf (d .world) }) (d .world .site .high) (d .world .site .low) []
+
+-- of start; a refused one leaves a blank state, whose settings are out of rule
+unfoldable pub blankSettings : Settings
+blankSettings =
+    record {
+      tset = record { 0 = 0 };
+      tqui = record { 0 = 0 };
+      mintsdr = record { 0 = 0 };
+      maxtsdr = record { 0 = 0 };
+      ttd = record { 0 = 0 };
+      ttr = record { 0 = 0 };
+      retries = record { 0 = 0 };
+    }
+
+unfoldable pub blank : State
+blank =
+    stateOf
+    (freshWorld (freshCore blankSettings 0 (replicate 127 0) (emptyQueue 0) (emptyQueue 0)) (replicate 127 0) (replicate 64 0) (replicate 255 0) noRows noRows)
+
+unfoldable pub startedOf : Started → Renewed
+startedOf (Unstarted n) = record { refused = n; state = blank }
+startedOf (Station s) = record { refused = 0; state = s }
 
 -- of submit and collect, which are lent one queue's row and data
 unfoldable pub lent : Priority → State → Rows → World

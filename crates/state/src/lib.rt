@@ -104,9 +104,10 @@ pub struct Spoken {
     pub indication: Indication,
 }
 
-// What a frame leaves: the core and what the memory keeps, how many octets to send and after which wait, and what is
-// indicated.
-pub struct Turned {
+// What frame, sent and slot answer where the arrays of the state are lent: the refusal or 0, the core and what the memory
+// keeps, how many octets to send and after which wait, and what is indicated.
+pub struct Heard {
+    pub refused: u8,
     pub core: Core,
     pub kept: Kept,
     pub length: usize,
@@ -131,8 +132,8 @@ pub struct Accepted {
     pub place: u8,
 }
 
-// What reset answers: the refusal or 0, and the state.
-pub struct WasReset {
+// What start and reset answer: the refusal or 0, and the state; where start refuses, a blank one that no call accepts.
+pub struct Renewed {
     pub refused: u8,
     pub state: State,
 }
@@ -185,10 +186,4 @@ pub enum Given {
 pub struct New {
     pub given: Given,
     pub indicated: bool,
-}
-
-// What start answers: the refusal, or the state.
-pub enum Started {
-    Refused(u8),
-    Station(State),
 }

@@ -1,0 +1,155 @@
+-- Demand 3: "Nothing starves an urgent order." A high request accepted with k high requests unconfirmed ahead of it is
+-- served, whatever calls come after. Assumes nothing.
+use Prim.Native.Nat.{ℕ, _+_, _≤_, _<_}
+use mathlib.Core.Bool.{Bool, true, false, true≢false}
+use mathlib.Core.Path.{_≡_, refl, sym, ap, _∙_}
+use mathlib.Core.List.{List, [], _∷_}
+use native.Mathlib.Omega.{arith}
+use Rattle.choice.proofs.Rules.{true-same, false-same, unrefused, is-said}
+use Rattle.times.specs.declared.Settings.{Settings}
+use Rattle.request.specs.declared.Record.{Record}
+use Rattle.queue.specs.declared.Queue.{Queue}
+use Rattle.queue.specs.declared.Taken.{Taken}
+use Rattle.queue.specs.Queue as Q
+use Rattle.queue.specs.Queue.{take}
+use Rattle.rows.specs.Rows.{Left}
+use Rattle.rows.proofs.Submitted.{Outcome, outcome}
+use Rattle.rows.proofs.Submitted.Outcome.{as-it-was, with-it}
+use Rattle.state.specs.declared.Phase.{Phase}
+use Rattle.state.specs.declared.Phase.the-variants.{Idle, Awaited, Sdn, Check, ToSelf}
+use Rattle.state.specs.declared.Priority.{Priority}
+use Rattle.state.specs.declared.Priority.the-variants.{High, Low}
+use Rattle.state.specs.declared.Doing.{Doing}
+use Rattle.state.specs.declared.Core.{Core}
+use Rattle.state.specs.declared.Kept.{Kept}
+use Rattle.state.specs.World.{World, Event, Done, Called, accepted, refused, done, withQueue, queueOf, withCore, rowsOf, withRows, withSite}
+use Rattle.state.specs.Refusals.{oddIn, lawless}
+use Rattle.state.specs.Calls as Calls
+use Rattle.state.specs.Calls.{called, refuse, submitting}
+use Rattle.state.specs.Runs.{Call, call, run, Begun}
+use Rattle.state.specs.Runs.Call.{submit}
+use Rattle.state.specs.Fate.{Fate, newborn, fate, Served}
+use Rattle.state.proofs.Cases.{by}
+use Rattle.state.proofs.Refused.{refuses}
+use Rattle.state.proofs.Places.{waiting-new, rowed-grown}
+use Rattle.state.proofs.Fates.{fresh-born, Fresh}
+use Rattle.state.proofs.Standing.{flight, Stage, off, ours, ahead, lower, Standing, waits, shut, gone, StandsAt}
+use Rattle.state.proofs.Steps.{holds-run}
+use Rattle.state.proofs.Ordered.{run-orderly}
+use Rattle.state.proofs.Start.{begun-orderly}
+
+-- ---- what its standing says of its fate
+unserved : {k limit n : ℕ} {f : Fate} (d : ℕ) → Fresh n f → n ≤ limit + 1 → f .holds + d ≤ k → Served k limit f
+unserved d o l t =
+    record {
+      once = omega (arith, o .confirmations);
+      inTime = λ h. absurd (omega arith);
+      atReset = λ h. absurd (true≢false (sym h ∙ o .reset));
+      few = omega (arith, o .sendings);
+      counted = λ h. absurd (omega (arith, o .confirmations));
+      handedBack = λ h. absurd (true≢false (sym h ∙ o .collected));
+    }
+
+waiting-served : {k limit : ℕ} (d : ℕ) {g : Doing} {f : Fate} → Stage k limit d g f → Served k limit f
+waiting-served d (off h o) = unserved d (o .fresh) (omega arith) (o .time)
+waiting-served d (ours h e z o l t) = unserved d o l t
+waiting-served d (ahead h e z o t) = unserved d o (omega arith) t
+waiting-served d (lower h e o) = unserved d (o .fresh) (omega arith) (o .time)
+
+standing-served : {p k limit : ℕ} {t : Settings} {g : Doing} {q : Queue} {row : List ℕ} {f : Fate} → Standing p k limit t g q row f → Served k limit f
+standing-served (waits d u w s) = waiting-served d s
+standing-served (shut u w a o) =
+    record {
+      once = omega (arith, o .confirmations);
+      inTime = λ h. o .confirmations;
+      atReset = λ h. o .confirmations;
+      few = o .few;
+      counted = λ h. o .count;
+      handedBack = λ h. absurd (true≢false (sym h ∙ o .collected));
+    }
+standing-served (gone o) =
+    record {
+      once = omega (arith, o .confirmations);
+      inTime = λ h. o .confirmations;
+      atReset = λ h. o .confirmations;
+      few = o .few;
+      counted = λ h. o .count;
+      handedBack = λ h. (o .confirmations, o .shown);
+    }
+
+-- ---- at its acceptance
+lawful-odd : (c : Core) (masters started : List ℕ) (k : Kept) → lawless c masters started k ≡ false → oddIn (c .doing .phase) c masters ≡ false
+unfolding lawless
+lawful-odd c masters started k e =
+    let a = unrefused _ _ e in
+    let b = unrefused _ _ (a .1) in
+    unrefused _ _ (b .1) .1
+
+-- what is being sent from the high queue is in it
+some-sent : (x : Phase) (c : Core) (masters : List ℕ) → oddIn x c masters ≡ false → flight x ≡ true → c .doing .served ≡ High → 0 < c .high .unconfirmed
+unfolding oddIn flight queueOf
+some-sent Idle c masters o h e = absurd (true≢false (sym h))
+some-sent Awaited c masters o h e = let n = false-same _ _ (rw e at o) in omega (arith, n)
+some-sent Sdn c masters o h e = let n = false-same _ _ (rw e at o) in omega (arith, n)
+some-sent Check c masters o h e = absurd (true≢false (sym h))
+some-sent ToSelf c masters o h e = absurd (true≢false (sym h))
+
+stage-new : (k limit : ℕ) (g : Doing) (b : Bool) (y : Priority) → flight (g .phase) ≡ b → g .served ≡ y → (flight (g .phase) ≡ true → g .served ≡ High → 0 < k) → Stage k limit k g newborn
+unfolding newborn
+stage-new k limit g false y h e s = off h (record { quiet = refl; fresh = fresh-born; time = omega arith })
+stage-new k limit g true High h e s = ahead h e (s h e) fresh-born (omega arith)
+stage-new k limit g true Low h e s =
+    lower h e (record { fresh = fresh-born; time = omega arith; slack = λ z. absurd (true≢false (sym z)) })
+
+-- the place in an acceptance
+placed : List Event → ℕ
+placed [] = 0
+placed (accepted y n ∷ l) = n
+placed (Event.begins ∷ l) = 0
+placed (Event.ends ∷ l) = 0
+placed (Event.sends x o t ∷ l) = 0
+placed (Event.confirmed q n s k ∷ l) = 0
+placed (Event.collected q n r ∷ l) = 0
+placed (Event.indicated h d ∷ l) = 0
+placed (Event.resets ∷ l) = 0
+placed (refused n ∷ l) = 0
+
+-- a call that accepts the high request at place p: so it stands then
+record Enters (p k limit : ℕ) (d : Called) : Type 0 where
+  enters : d .events ≡ accepted High p ∷ [] → StandsAt p k limit (d .world .site) newborn
+
+module _ (p k limit : ℕ) where
+  never-refused : (n : ℕ) (w : World) → Enters p k limit (refuse n w)
+  unfolding refuse refuses
+  never-refused n w = record { enters = λ e. absurd (true≢false (ap refuses e)) }
+
+  stands-new : (ts : ℕ) (r : Record) (x : List ℕ) (l : Left Taken) (w : World) → w .site .core .high .unconfirmed ≡ k → w .site .core .settings .retries .0 ≡ limit → oddIn (w .site .core .doing .phase) (w .site .core) (w .site .masters) ≡ false → Outcome ts (w .site .core .high) r x (w .site .high .row) (w .site .high .area) l → Enters p k limit (called (submitting High l (w .site)) w)
+  unfolding called withSite submitting done withRows withCore withQueue take Q.refuse placed refuses
+  stands-new ts r x l w e t o (as-it-was n z i) =
+      rw (← i)
+      (by (λ (d : Done). Enters p k limit (called d w)) _ _ _ (λ b. absurd (z (true-same n 0 b)))
+      (λ b. record { enters = λ q. absurd (true≢false (ap refuses q)) }))
+  stands-new ts r x l w e t o (with-it u v a i) =
+      rw (← i)
+      (by (λ (d : Done). Enters p k limit (called d w)) _ _ _
+      (λ b. record { enters = λ q. rw (← ap placed q, ← e, ← t) (waits _ (record { limits = refl; rowed = rowed-grown _ _ _ (record { ruled = u; long = v .places }) (a .room) }) (waiting-new _) (stage-new _ _ _ _ _ refl refl (some-sent _ (w .site .core) (w .site .masters) o))) })
+      (λ b. record { enters = λ q. absurd (true≢false (ap refuses q)) }))
+
+  submit-enters : (r : Record) (x : List ℕ) (w : World) → w .site .core .high .unconfirmed ≡ k → w .site .core .settings .retries .0 ≡ limit → Enters p k limit (Calls.submit High r x w)
+  unfolding Calls.submit queueOf rowsOf
+  submit-enters r x w e t =
+      by (Enters p k limit) _ _ _ (λ b. never-refused 21 w)
+      (λ b. by (Enters p k limit) _ _ _ (λ b. never-refused 29 w)
+      (λ b. stands-new _ r x _ w e t (lawful-odd _ _ _ _ (is-said b)) (outcome _ _ r x _ _)))
+
+-- ---- the theorem, of any world that accepts the request
+pub served : (w : World) (r : Record) (x : List ℕ) (p : ℕ) (after : List Call) → call (submit High r x) w .events ≡ accepted High p ∷ [] → Served (w .site .core .high .unconfirmed) (w .site .core .settings .retries .0) (fate p (run after (call (submit High r x) w .world) .events) newborn)
+unfolding call
+served w r x p after e =
+    standing-served (holds-run p _ _ after (Calls.submit High r x w .world) newborn (submit-enters p _ _ r x w refl refl .enters e) .stands)
+
+-- demand 3: "After a start and before any other, if each call is given the station's state and each queue row, data
+-- included, just as the call before left them": of all calls before the request and all calls after it
+pub demand-3 : (w : World) (b : Begun w) (before after : List Call) (r : Record) (x : List ℕ) (p : ℕ) → call (submit High r x) (run before w .world) .events ≡ accepted High p ∷ [] → Served (run before w .world .site .core .high .unconfirmed) (b .settings .retries .0) (fate p (run after (call (submit High r x) (run before w .world) .world) .events) newborn)
+demand-3 w b before after r x p e =
+    rw (run-orderly (b .settings) (b .ts) before w (begun-orderly w b) .firm .settings) at (served (run before w .world) r x p after e)
