@@ -1,11 +1,11 @@
 -- What is known where nothing is refused: each test that was passed, in numbers. Assumes nothing.
 use Prim.Native.Nat.{ℕ, _<_, _≤_}
-use mathlib.Core.Bool.{Bool, true, false, not}
+use mathlib.Core.Bool.{Bool, true, false}
 use mathlib.Core.List.{List}
 use mathlib.Core.Path.{_≡_, refl, sym}
+use Rattle.choice.specs.Choice.{pick, said}
 use native.Mathlib.Omega.{arith}
-use Rattle.choice.specs.Choice.{pick}
-use Rattle.choice.proofs.Rules.{false-less, true-same, false-same, passed, unrefused, granted, is-said}
+use Rattle.choice.proofs.Rules.{false-less, true-same, false-same, passed, unrefused, granted, is-said, not-turned}
 use Rattle.ring.specs.Ring.{member, nextOf}
 use Rattle.times.specs.declared.Settings.{Settings}
 use Rattle.times.specs.Times.{Small}
@@ -25,17 +25,6 @@ use Rattle.state.specs.declared.Core.{Core}
 use Rattle.state.specs.declared.Kept.{Kept}
 use Rattle.state.specs.World.{Rows, queueOf}
 use Rattle.state.specs.Refusals.{Lawful, Sited, unstartable, unlent, cramped, unstarted, misaddressed, overcounted, oddIn, lawless, soundIn, unlikeIn, rowBy, inFlight, unsound, refusalIn}
-
--- a test turned round, as its own answer
-pub pick-not : (b : Bool) → pick b false true ≡ not b
-unfolding pick
-pick-not true = refl
-pick-not false = refl
-
-not-turned : (b : Bool) → pick b false true ≡ false → b ≡ true
-unfolding pick
-not-turned true e = refl
-not-turned false e = sym e
 
 -- ---- 20
 module _ (s : Settings) (ts : ℕ) (masters : List ℕ) (e : unstartable s ts masters ≡ false) where
@@ -198,11 +187,11 @@ unfolding rowBy
 row-low p high low h = rw h
 
 module _ (c : Core) (high low : List ℕ) {r : Record} {p : ℕ} {q : Queue} (a : q ≡ queueOf (c .doing .served) c) (b : p ≡ current q) where
-  pub flight-high : c .doing .served ≡ High → r ≡ at high p → r .service ≡ inFlight c high low .service
+  pub flight-high : c .doing .served ≡ High → r ≡ at high p → r ≡ inFlight c high low
   unfolding inFlight
   flight-high h e = rw (e, b, a, row-high _ high low h)
 
-  pub flight-low : c .doing .served ≡ Low → r ≡ at low p → r .service ≡ inFlight c high low .service
+  pub flight-low : c .doing .served ≡ Low → r ≡ at low p → r ≡ inFlight c high low
   unfolding inFlight
   flight-low h e = rw (e, b, a, row-low _ high low h)
 
@@ -291,3 +280,14 @@ module _ (out first second : ℕ) (c : Core) (masters started : List ℕ) (k : K
 
   pub self-itself : c .doing .phase ≡ ToSelf → nextOf masters (c .ts .0) ≡ c .ts .0
   self-itself h = lawful-self c masters started k not-lawless h
+
+-- ---- 29, by the records, whichever is asked first
+either-way : (a b : Bool) {u : Bool} → u ≡ true → true ≡ pick (said a) (pick (said b) u true) true
+unfolding pick said
+either-way true true e = sym e
+either-way true false e = refl
+either-way false b e = refl
+
+pub unlike-unsound : (c : Core) (high low : List ℕ) → unlikeIn (c .doing .phase) (inFlight c high low .service) ≡ true → true ≡ unsound c high low
+unfolding unsound
+unlike-unsound c high low e = either-way (soundIn (c .ts .0) (c .high) high) (soundIn (c .ts .0) (c .low) low) e

@@ -10,6 +10,7 @@ ghost use Rattle.state.specs.Refusals.{Lawful, oddIn, unlikeIn, inFlight, refus
 ghost use Rattle.state.specs.Refusals.{unstartable as Refusals·unstartable, unlent as Refusals·unlent, cramped as Refusals·cramped, unstarted as Refusals·unstarted, misaddressed as Refusals·misaddressed, overcounted as Refusals·overcounted, lawless as Refusals·lawless, unsound as Refusals·unsound};
 use frame::Address;
 use queue::Queue;
+use request::Record;
 use ring::Masters;
 use state::Core;
 use state::Kept;
@@ -183,18 +184,18 @@ fn sdn(service: u8) -> bool
     if service == request::SDN { true } else { false }
 }
 
-// The service of the record being sent, or of the one that would be.
-fn service_in_flight(c: Core, high: &[u8], low: &[u8]) -> u8
+// The record being sent, or the one that would be.
+pub fn in_flight(c: Core, high: &[u8], low: &[u8]) -> Record
     requires { ⌜ (Lawful c) × ((length (now high) ≡ 7 * c .high .places) × (length (now low) ≡ 7 * c .low .places)) ⌝ }
-    ensures { λ r. ⌜ r ≡ inFlight c (now (high .entry)) (now (low .entry)) .service ⌝ }
+    ensures { λ r. ⌜ r ≡ inFlight c (now (high .entry)) (now (low .entry)) ⌝ }
 {
     let doing = c.doing;
     let served = doing.served;
     let q = acts::queue_of(served, c);
     let place = queue::current(q);
     match served {
-        Priority::High => rows::at(high, place).service,
-        Priority::Low => rows::at(low, place).service,
+        Priority::High => rows::at(high, place),
+        Priority::Low => rows::at(low, place),
     }
 }
 
@@ -209,13 +210,17 @@ fn unsound(c: Core, high: &[u8], low: &[u8]) -> bool
     let second = c.low;
     let doing = c.doing;
     let phase = doing.phase;
+    let r = in_flight(c, high, low);
+    if unlike(phase, r.service) {
+        return true;
+    }
     if !rows::sound(ts, first, high) {
         return true;
     }
     if !rows::sound(ts, second, low) {
         return true;
     }
-    unlike(phase, service_in_flight(c, high, low))
+    false
 }
 
 // The refusal of frame, sent and slot, with an output and two updates of those lengths, or 0.

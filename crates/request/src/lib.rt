@@ -182,10 +182,7 @@ fn extensions(point: u8) -> usize
 fn overlong(to: u8, from: u8, n: usize) -> bool
     ensures { λ r. ⌜ r ≡ Record·overlong to from n ⌝ }
 {
-    if 246 < n {
-        return true;
-    }
-    if 246 < extensions(to) + (extensions(from) + n) {
+    if 246 - (extensions(to) + extensions(from)) < n {
         return true;
     }
     false

@@ -1,14 +1,14 @@
--- `refusals::unsound` meets its contract. Assumes nothing.
-use mathlib.Core.Path.{ap, _∙_}
-use Rattle.state.specs.Refusals.{soundIn, unlikeIn, unsound}
+-- `refusals::unsound` meets its contract: the record in flight is asked first, which makes no difference. Assumes nothing.
+use mathlib.Core.Path.{sym, _∙_}
+use Rattle.state.specs.Refusals.{soundIn, unsound}
 use Rattle.choice.proofs.Rules.{picks, asked, denied-false}
+use Rattle.refusals.proofs.Facts.{unlike-unsound}
 use borrow.Author.Needs.{needs}
 use Rattle.refusals.proofs.unsound.Statement.{statement}
 use Rattle.refusals.proofs.unsound.Tie as tie
 
 returns : tie.Need-returns
-unfolding soundIn unsound
-returns c = search (picks, asked) depth 20
+returns c = unlike-unsound _ _ _ (cc (c .if1 .taken, c .before .unlike .ensures, c .before .before .in-flight .ensures))
 
 returns-2 : tie.Need-returns-2
 unfolding soundIn unsound
@@ -16,18 +16,21 @@ returns-2 c = search (picks, asked) depth 20
 
 returns-3 : tie.Need-returns-3
 unfolding soundIn unsound
-returns-3 c =
-    denied-false _ (c .before .before .before .before .before .sound .ensures) (c .before .before .before .before .if1 .left)
-    (denied-false _ (c .before .before .before .sound2 .ensures) (c .before .before .if2 .left) (c .unlike .ensures ∙ ap (unlikeIn _) (c .before .service-in-flight .ensures)))
+returns-3 c = search (picks, asked) depth 20
+
+returns-4 : tie.Need-returns-4
+unfolding soundIn unsound
+returns-4 c = denied-false _ (c .before .before .before .sound .ensures) (c .before .before .if2 .left) (denied-false _ (c .before .sound2 .ensures) (c .if3 .left) (cc (c .before .before .before .before .if1 .left, c .before .before .before .before .before .unlike .ensures, c .before .before .before .before .before .before .in-flight .ensures)))
 
 pub unsound-spec : {M : Type 1} → statement M
 unsound-spec =
     tie.close
     (tie.spec
     (λ c κs. search needs)
+    (λ c κs. search needs)
     returns
     (λ c κs. search needs)
     returns-2
     (λ c κs. search needs)
-    (λ c κs. search needs)
-    returns-3)
+    returns-3
+    returns-4)

@@ -1,7 +1,7 @@
--- `request::overlong` meets its contract. Assumes nothing.
-use Rattle.request.specs.Record.{overlong}
+-- `request::overlong` meets its contract: the room that the access points leave is at least 244. Assumes nothing.
 use mathlib.Core.Path.{refl}
 use native.Mathlib.Omega.{arith}
+use Rattle.request.specs.Record.{overlong}
 use Rattle.choice.proofs.Rules.{if-less, unless-less}
 use borrow.Author.Needs.{needs}
 use Rattle.request.proofs.overlong.Statement.{statement}
@@ -9,26 +9,19 @@ use Rattle.request.proofs.overlong.Tie as tie
 
 returns : tie.Need-returns
 unfolding overlong
-returns c = if-less _ (omega arith) refl
+returns c = if-less _ (omega (arith, c .if1 .taken, c .before .before .extensions .ensures, c .before .extensions2 .ensures)) refl
 
 returns-2 : tie.Need-returns-2
 unfolding overlong
-returns-2 c =
-    if-less _ (rw (← c .before .before .extensions .ensures .0, ← c .before .extensions2 .ensures .0) (c .if2 .taken)) refl
-
-returns-3 : tie.Need-returns-3
-unfolding overlong
-returns-3 c =
-    unless-less _ (rw (← c .before .before .extensions .ensures .0, ← c .before .extensions2 .ensures .0) (c .if2 .left)) refl
+returns-2 c = unless-less _ (omega (arith, c .if1 .left, c .before .before .extensions .ensures, c .before .extensions2 .ensures)) refl
 
 pub overlong-spec : {M : Type 1} → statement M
 overlong-spec =
     tie.close
     (tie.spec
+    (λ c κs. search needs)
+    (λ c κs. search needs)
+    (λ c. search needs)
+    (λ c. search needs)
     returns
-    (λ c κs. search needs)
-    (λ c κs. search needs)
-    (λ c. search needs)
-    (λ c. search needs)
-    returns-2
-    returns-3)
+    returns-2)

@@ -1,11 +1,11 @@
--- `refusals::service_in_flight` meets its contract. Assumes nothing.
+-- `refusals::in_flight` meets its contract. Assumes nothing.
 use native.Mathlib.Omega.{arith}
 use mathlib.Core.Path.{_≡_}
 use Rattle.refusals.proofs.Facts.{ruled-of, flight-high, flight-low}
 use Rattle.state.specs.World.{queueOf}
 use borrow.Author.Needs.{needs}
-use Rattle.refusals.proofs.service_in_flight.Statement.{statement}
-use Rattle.refusals.proofs.service_in_flight.Tie as tie
+use Rattle.refusals.proofs.in_flight.Statement.{statement}
+use Rattle.refusals.proofs.in_flight.Tie as tie
 
 current-requires : tie.Need-current-requires
 current-requires c κs = rw (c .queue-of .ensures) (ruled-of _ _ (c .before .before .before .before .pre .0))
@@ -28,8 +28,8 @@ returns c = flight-high _ _ _ (c .before .before .before .before .queue-of .ensu
 returns-2 : tie.Need-returns-2
 returns-2 c = flight-low _ _ _ (c .before .before .before .before .queue-of .ensures) (c .before .before .before .current .ensures .0) (c .before .enum-told2 .given .1) (c .at2 .ensures)
 
-pub service-in-flight-spec : {M : Type 1} → statement M
-service-in-flight-spec =
+pub in-flight-spec : {M : Type 1} → statement M
+in-flight-spec =
     tie.close
     (tie.spec
     (λ c κs. search needs)
