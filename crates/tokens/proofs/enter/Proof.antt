@@ -1,0 +1,12 @@
+-- `tokens::enter` meets its contract. Assumes nothing.
+use Rattle.ring.specs.Ring.{enter}
+use borrow.Author.Needs.{needs}
+use Rattle.tokens.proofs.enter.Statement.{statement}
+use Rattle.tokens.proofs.enter.Tie as tie
+
+returns : tie.Need-returns
+unfolding enter
+returns c = rw (← c .before .wide .ensures .0) (c .write-member .ensures)
+
+pub enter-spec : {M : Type 1} → statement M
+enter-spec = tie.close (tie.spec (λ c κs. search needs) (λ c κs. search needs) returns)
