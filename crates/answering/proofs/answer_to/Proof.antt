@@ -1,0 +1,18 @@
+-- `answering::answer_to` meets its contract. Assumes nothing.
+use mathlib.Core.Path.{refl}
+use Rattle.state.specs.Answering.{answered, answerTo}
+use Rattle.answers.proofs.Says.{says-nothing}
+use borrow.Author.Needs.{needs}
+use Rattle.answering.proofs.answer_to.Statement.{statement}
+use Rattle.answering.proofs.answer_to.Tie as tie
+
+returns : tie.Need-returns
+unfolding answerTo
+returns c = rw (c .before .before .before .before .before .before .before .control .given .1, ← c .before .before .before .before .before .asks .ensures) (c .before .before .answer-as .ensures)
+
+returns-2 : tie.Need-returns-2
+unfolding answerTo answered
+returns-2 c = rw (c .before .enum-told .given .1, c .silent .ensures) (says-nothing _ _, refl)
+
+pub answer-to-spec : {M : Type 1} → statement M
+answer-to-spec = tie.close (tie.spec (λ c. search needs) (λ c κs. search needs) (λ c κs. search needs) (λ c. search needs) (λ c κs. search needs) (λ c. search needs) returns returns-2)

@@ -1,0 +1,138 @@
+// The answering side: what is answered to a request in Idle, by its address and its service. It touches no queue and no
+// token. Assumes nothing.
+ghost use mathlib.Core.Path.{_≡_};
+ghost use Rattle.state.specs.Answering.{Asked, memory, answerAs, answerTo};
+ghost use Rattle.state.specs.Answering.{answer as Answering·answer};
+ghost use Rattle.state.specs.Told.{Says};
+use control::Control;
+use frame::Head;
+use frame::Part;
+use state::Asks;
+use state::Core;
+use state::Indication;
+use state::Kept;
+use state::Spoken;
+
+fn answer_as<'a>(
+    a: Asks,
+    fcb: bool,
+    fcv: bool,
+    c: Core,
+    points: &[u8; 64],
+    k: Kept,
+    octets: &mut [u8; 255],
+    room: bool,
+    high: &'a [u8],
+    low: &'a [u8],
+    h: Head,
+    p: Part,
+    out: &mut [u8],
+) -> Spoken
+    requires { ⌜ Asked c k h (now high) (now low) (now out) ⌝ }
+    ensures { λ r. ⌜ Says (answerAs a c (now (points .entry)) (memory k (now (octets .entry))) fcb fcv room (now (high .entry)) (now (low .entry)) h p .memory .kept) (answerAs a c (now (points .entry)) (memory k (now (octets .entry))) fcb fcv room (now (high .entry)) (now (low .entry)) h p .events) (now (out .entry)) r (now (out .exit)) ⌝ }
+    ensures { λ _. ⌜ now (octets .exit) ≡ answerAs a c (now (points .entry)) (memory k (now (octets .entry))) fcb fcv room (now (high .entry)) (now (low .entry)) h p .memory .octets ⌝ }
+{
+    match a {
+        Asks::Sda => counted::answer_counted(
+            c,
+            points,
+            k,
+            octets,
+            true,
+            fcb,
+            fcv,
+            room,
+            high,
+            low,
+            h,
+            p,
+            out,
+        ),
+        Asks::Srd => counted::answer_counted(
+            c,
+            points,
+            k,
+            octets,
+            false,
+            fcb,
+            fcv,
+            room,
+            high,
+            low,
+            h,
+            p,
+            out,
+        ),
+        Asks::Sdn => answers::answer_sdn(points, k, room, h, p),
+        Asks::Status => answers::answer_status(c, k, h, out),
+        Asks::Never => answers::silent(k, Indication::None),
+    }
+}
+
+fn answer_to<'a>(
+    control: Control,
+    c: Core,
+    points: &[u8; 64],
+    k: Kept,
+    octets: &mut [u8; 255],
+    room: bool,
+    high: &'a [u8],
+    low: &'a [u8],
+    h: Head,
+    p: Part,
+    out: &mut [u8],
+) -> Spoken
+    requires { ⌜ Asked c k h (now high) (now low) (now out) ⌝ }
+    ensures { λ r. ⌜ Says (answerTo control c (now (points .entry)) (memory k (now (octets .entry))) room (now (high .entry)) (now (low .entry)) h p .memory .kept) (answerTo control c (now (points .entry)) (memory k (now (octets .entry))) room (now (high .entry)) (now (low .entry)) h p .events) (now (out .entry)) r (now (out .exit)) ⌝ }
+    ensures { λ _. ⌜ now (octets .exit) ≡ answerTo control c (now (points .entry)) (memory k (now (octets .entry))) room (now (high .entry)) (now (low .entry)) h p .memory .octets ⌝ }
+{
+    match control {
+        Control::Request { service, fcb, fcv } => {
+            answer_as(
+                answers::asks(service),
+                fcb,
+                fcv,
+                c,
+                points,
+                k,
+                octets,
+                room,
+                high,
+                low,
+                h,
+                p,
+                out,
+            )
+        }
+        Control::Reply { kind: _, code: _ } => answers::silent(k, Indication::None),
+    }
+}
+
+// Answers a request to TS or to all.
+pub fn answer<'a>(
+    c: Core,
+    points: &[u8; 64],
+    k: Kept,
+    octets: &mut [u8; 255],
+    room: bool,
+    high: &'a [u8],
+    low: &'a [u8],
+    h: Head,
+    p: Part,
+    out: &mut [u8],
+) -> Spoken
+    requires { ⌜ Asked c k h (now high) (now low) (now out) ⌝ }
+    ensures { λ r. ⌜ Says (Answering·answer c (now (points .entry)) (memory k (now (octets .entry))) room (now (high .entry)) (now (low .entry)) h p .memory .kept) (Answering·answer c (now (points .entry)) (memory k (now (octets .entry))) room (now (high .entry)) (now (low .entry)) h p .events) (now (out .entry)) r (now (out .exit)) ⌝ }
+    ensures { λ _. ⌜ now (octets .exit) ≡ Answering·answer c (now (points .entry)) (memory k (now (octets .entry))) room (now (high .entry)) (now (low .entry)) h p .memory .octets ⌝ }
+{
+    let control = h.control;
+    let destination = h.destination;
+    let ts = c.ts;
+    if destination.0 == ts.0 {
+        return answer_to(control, c, points, k, octets, room, high, low, h, p, out);
+    }
+    if destination.0 == 127 {
+        return answer_to(control, c, points, k, octets, room, high, low, h, p, out);
+    }
+    answers::silent(k, Indication::None)
+}

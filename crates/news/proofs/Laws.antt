@@ -1,0 +1,16 @@
+-- An update that is shown is as short as both. Assumes nothing.
+use Prim.Native.Nat.{ℕ, _≤_}
+use mathlib.Core.Bool.{Bool, true, false}
+use mathlib.Core.List.{List}
+use lib.ListN.{length}
+use Rattle.choice.specs.Choice.{pick, less}
+use Rattle.state.specs.Answering.{shown}
+
+short : (b : Bool) (high low : List ℕ) → length high ≤ 244 → length low ≤ 244 → length (pick b high low) ≤ 244
+unfolding pick
+short true high low h l = h
+short false high low h l = l
+
+pub shown-short : (high low : List ℕ) → length high ≤ 244 → length low ≤ 244 → length (shown high low) ≤ 244
+unfolding shown
+shown-short high low h l = short (less 0 (length high)) high low h l
