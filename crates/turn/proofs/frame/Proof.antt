@@ -1,0 +1,22 @@
+-- `turn::frame` meets its contract. Assumes nothing.
+use Rattle.state.specs.World.{worldOf}
+use Rattle.turn.proofs.Answered.{answered}
+use borrow.Author.Needs.{needs}
+use Rattle.turn.proofs.frame.Statement.{statement}
+use Rattle.turn.proofs.frame.Tie as tie
+
+returns : tie.Need-returns
+unfolding worldOf
+returns c = answered _ _ (c .before .before .before .before .before .before .before .before .before .before .before .before .before .frame .ensures)
+
+pub frame-spec : {M : Type 1} → statement M
+frame-spec =
+    tie.close
+    (tie.spec
+    (λ c κs. search needs)
+    (λ c. search needs)
+    (λ c. search needs)
+    (λ c. search needs)
+    (λ c. search needs)
+    (λ c. search needs)
+    returns)
