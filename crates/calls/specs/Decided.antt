@@ -1,0 +1,35 @@
+-- What submit and collect decide by the parts of a state and the lent row, before a state is made of it. Assumes nothing.
+use Prim.Native.Nat.{ℕ}
+use mathlib.Core.List.{List}
+use Rattle.choice.specs.Choice.{pick, same, said}
+use Rattle.request.specs.declared.Record.{Record}
+use Rattle.queue.specs.declared.Queue.{Queue}
+use Rattle.queue.specs.declared.Taken.{Taken}
+use Rattle.queue.specs.declared.Collected.{Collected}
+use Rattle.queue.specs.declared.Collected.the-variants.{Refused}
+use Rattle.queue.specs.Queue.{refuse}
+use Rattle.rows.specs.Rows.{Left, left, submitted, handed}
+use Rattle.state.specs.declared.Core.{Core}
+use Rattle.state.specs.declared.Kept.{Kept}
+use Rattle.state.specs.World.{Rows}
+use Rattle.state.specs.Refusals.{unlent, lawless}
+
+-- 21 for the row, 29 for the state; 0 is none
+unfoldable pub refusalOf : Queue → Core → List ℕ → List ℕ → Kept → Rows → ℕ
+refusalOf q c masters started k w =
+    pick (said (unlent q w)) 21
+    (pick (said (lawless c masters started k)) 29
+    0)
+
+-- what the row's own submit says, unless that refuses; likewise of collect
+unfoldable pub taking : Queue → Core → List ℕ → List ℕ → Kept → Record → List ℕ → Rows → Left Taken
+taking q c masters started k r x w =
+    pick (same (refusalOf q c masters started k w) 0)
+    (submitted (c .ts .0) q r x (w .row) (w .area))
+    (left (refuse (refusalOf q c masters started k w) q r) (w .row) (w .area))
+
+unfoldable pub handing : Queue → Core → List ℕ → List ℕ → Kept → Rows → Collected
+handing q c masters started k w =
+    pick (same (refusalOf q c masters started k w) 0)
+    (handed q (w .row) (w .area))
+    (Refused (refusalOf q c masters started k w))

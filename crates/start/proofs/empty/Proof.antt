@@ -1,0 +1,12 @@
+-- `start::empty` meets its contract. Assumes nothing.
+use Rattle.state.specs.Calls.{emptyQueue}
+use borrow.Author.Needs.{needs}
+use Rattle.start.proofs.empty.Statement.{statement}
+use Rattle.start.proofs.empty.Tie as tie
+
+returns : tie.Need-returns
+unfolding emptyQueue
+returns c = cc
+
+pub empty-spec : {M : Type 1} → statement M
+empty-spec = tie.close (tie.spec (λ c. search needs) returns)

@@ -1,0 +1,13 @@
+-- `start::fresh` meets its contract. Assumes nothing.
+use Rattle.state.specs.Calls.{freshWorld, forgotten}
+use Rattle.state.specs.World.{stateOf}
+use borrow.Author.Needs.{needs}
+use Rattle.start.proofs.fresh.Statement.{statement}
+use Rattle.start.proofs.fresh.Tie as tie
+
+returns : tie.Need-returns
+unfolding freshWorld forgotten stateOf
+returns c = cc
+
+pub fresh-spec : {M : Type 1} → statement M
+fresh-spec = tie.close (tie.spec (λ c κs. search needs) returns)

@@ -1,0 +1,12 @@
+-- `start::unstarted` meets its contract. Assumes nothing.
+use Rattle.state.specs.Told.{startedOf}
+use borrow.Author.Needs.{needs}
+use Rattle.start.proofs.unstarted.Statement.{statement}
+use Rattle.start.proofs.unstarted.Tie as tie
+
+returns : tie.Need-returns
+unfolding startedOf
+returns c = cc
+
+pub unstarted-spec : {M : Type 1} → statement M
+unstarted-spec = tie.close (tie.spec (λ c κs. search needs) returns)
