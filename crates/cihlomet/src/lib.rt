@@ -1,186 +1,35 @@
-// The C boundary: the reader, the writer and the lister for programs in C. Numbers go in and structs of numbers come
-// out; every number is taken, and out-of-rule ones are refused. Only an FC that is not listed, which the fields cannot
-// hold, is refused here. Assumes nothing.
+// The C boundary: the reader, the writer, the lister and the station for programs in C. Numbers go in and structs of
+// numbers come out; every number is taken, and out-of-rule ones are refused. Assumes nothing.
 ghost use mathlib.Core.Path.{_≡_};
 ghost use mathlib.Core.List.{[]};
+ghost use lib.ListN.{length};
 ghost use Rattle.frame.specs.Reading.{read as Reading·read};
 ghost use Rattle.frame.specs.Format.{written, left};
+ghost use Rattle.state.specs.World.{rows, worldOf};
+ghost use Rattle.state.specs.Calls.{start as Calls·start, reset as Calls·reset, submit as Calls·submit, collect as Calls·collect, frame as Calls·frame, sent as Calls·sent, slot as Calls·slot};
+ghost use Rattle.state.specs.Told.{lent, worldIn, startedOf, resetOf, standing};
+ghost use Rattle.board.specs.Board.{coreIn, keptIn};
+ghost use Rattle.handover.specs.Handover.{settingsFrom, stateIn, requestFrom, roomOf, holding, filled, starting, held, resetting, lodged, submitting, collecting};
 ghost use Rattle.capture.specs.Listing.{listed, left as Listing·left};
-ghost use Rattle.cihlomet.specs.Flat.{pointOf, accessOf, tokenFrom, flat as Flat·flat, flatWritten, unlisted as Flat·unlisted, writes, leaves};
-use frame::Access;
+ghost use Rattle.flat.specs.Flat.{tokenFrom, flat as Flat·flat, flatWritten, writes, leaves};
+use board::Numbers;
+use flat::FlatFrame;
+use flat::FlatWritten;
 use frame::Address;
-use frame::Answer;
 use frame::Fields;
-use frame::Head;
-use frame::Part;
-use frame::Point;
-use frame::Written;
-
-// What was read: refused is 0 or the refusal; form is 1 for a token, 2 for a short acknowledgement, 3 for a frame.
-#[repr(C)]
-pub struct FlatFrame {
-    pub refused: u8,
-    pub form: u8,
-    pub destination: u8,
-    pub to: u8,
-    pub source: u8,
-    pub from: u8,
-    pub control: u8,
-    pub start: usize,
-    pub count: usize,
-}
-
-// What was written: refused is 0 or the refusal, and count the octets written.
-#[repr(C)]
-pub struct FlatWritten {
-    pub refused: u8,
-    pub count: usize,
-}
-
-fn point_of(a: Access) -> u8
-    ensures { λ r. ⌜ r ≡ pointOf a ⌝ }
-{
-    match a {
-        Access::None => 255,
-        Access::At(p) => p.0,
-    }
-}
-
-fn access_of(n: u8) -> Access
-    ensures { λ r. ⌜ r ≡ accessOf n ⌝ }
-{
-    if n == 255 {
-        return Access::None;
-    }
-    Access::At(Point(n))
-}
-
-fn flat_head(h: Head, p: Part) -> FlatFrame
-    ensures { λ r. ⌜ r ≡ Flat·flat (Answer.Read (Fields.Frame h) p) ⌝ }
-{
-    let to = h.to;
-    let from = h.from;
-    let control = h.control;
-    FlatFrame {
-        refused: 0,
-        form: 3,
-        destination: h.destination.0,
-        to: point_of(to),
-        source: h.source.0,
-        from: point_of(from),
-        control: control::fc(control),
-        start: p.start,
-        count: p.count,
-    }
-}
-
-fn flat_token(destination: Address, source: Address, p: Part) -> FlatFrame
-    ensures { λ r. ⌜ r ≡ Flat·flat (Answer.Read (Fields.Token destination source) p) ⌝ }
-{
-    FlatFrame {
-        refused: 0,
-        form: 1,
-        destination: destination.0,
-        to: 255,
-        source: source.0,
-        from: 255,
-        control: 0,
-        start: p.start,
-        count: p.count,
-    }
-}
-
-fn flat_short(p: Part) -> FlatFrame
-    ensures { λ r. ⌜ r ≡ Flat·flat (Answer.Read Fields.Short p) ⌝ }
-{
-    FlatFrame {
-        refused: 0,
-        form: 2,
-        destination: 0,
-        to: 255,
-        source: 0,
-        from: 255,
-        control: 0,
-        start: p.start,
-        count: p.count,
-    }
-}
-
-fn flat_refused(refused: u8) -> FlatFrame
-    ensures { λ r. ⌜ r ≡ Flat·flat (Answer.Refused refused) ⌝ }
-{
-    FlatFrame {
-        refused,
-        form: 0,
-        destination: 0,
-        to: 255,
-        source: 0,
-        from: 255,
-        control: 0,
-        start: 0,
-        count: 0,
-    }
-}
-
-fn flat_fields(f: Fields, p: Part) -> FlatFrame
-    ensures { λ r. ⌜ r ≡ Flat·flat (Answer.Read f p) ⌝ }
-{
-    match f {
-        Fields::Token {
-            destination,
-            source,
-        } => flat_token(destination, source, p),
-        Fields::Short => flat_short(p),
-        Fields::Frame(h) => flat_head(h, p),
-    }
-}
+use handover::FlatAccepted;
+use handover::FlatAnswer;
+use handover::FlatCollected;
+use handover::FlatRenewed;
+use handover::FlatSettings;
+use state::Priority;
 
 // Reads a frame.
 #[no_mangle]
 pub extern "C" fn cihlomet_read(octets: &[u8]) -> FlatFrame
     ensures { λ r. ⌜ r ≡ Flat·flat (Reading·read (now (octets .entry))) ⌝ }
 {
-    match read::read(octets) {
-        Answer::Refused(n) => flat_refused(n),
-        Answer::Read(f, p) => flat_fields(f, p),
-    }
-}
-
-fn flat_written(w: Written) -> FlatWritten
-    ensures { λ r. ⌜ r ≡ flatWritten w ⌝ }
-{
-    match w {
-        Written::Refused(n) => FlatWritten {
-            refused: n,
-            count: 0,
-        },
-        Written::Count(n) => FlatWritten {
-            refused: 0,
-            count: n,
-        },
-    }
-}
-
-// The refusal of a frame whose FC is not listed: 8 goes before 9.
-fn unlisted(destination: u8, source: u8) -> FlatWritten
-    ensures { λ r. ⌜ r ≡ Flat·unlisted destination source ⌝ }
-{
-    if 126 < source {
-        return FlatWritten {
-            refused: 8,
-            count: 0,
-        };
-    }
-    if 127 < destination {
-        return FlatWritten {
-            refused: 8,
-            count: 0,
-        };
-    }
-    FlatWritten {
-        refused: 9,
-        count: 0,
-    }
+    flat::reading(octets)
 }
 
 // Writes a frame with a control octet.
@@ -197,18 +46,7 @@ pub extern "C" fn cihlomet_write(
     ensures { λ r. ⌜ r ≡ writes destination to source from control (now («data» .entry)) (now (out .entry)) ⌝ }
     ensures { λ _. ⌜ now (out .exit) ≡ leaves destination to source from control (now («data» .entry)) (now (out .entry)) ⌝ }
 {
-    let c = control::control_of(control);
-    if !control::named(c, control) {
-        return unlisted(destination, source);
-    }
-    let h = Head {
-        destination: Address(destination),
-        to: access_of(to),
-        source: Address(source),
-        from: access_of(from),
-        control: c,
-    };
-    flat_written(write::write_frame(h, data, out))
+    flat::writing(destination, to, source, from, control, data, out)
 }
 
 // Writes a token.
@@ -217,7 +55,7 @@ pub extern "C" fn cihlomet_token(destination: u8, source: u8, out: &mut [u8]) ->
     ensures { λ r. ⌜ r ≡ flatWritten (written (tokenFrom destination source) [] (now (out .entry))) ⌝ }
     ensures { λ _. ⌜ now (out .exit) ≡ left (tokenFrom destination source) [] (now (out .entry)) ⌝ }
 {
-    flat_written(write::write_token(Address(destination), Address(source), out))
+    flat::written(write::write_token(Address(destination), Address(source), out))
 }
 
 // Writes a short acknowledgement.
@@ -226,7 +64,7 @@ pub extern "C" fn cihlomet_short(out: &mut [u8]) -> FlatWritten
     ensures { λ r. ⌜ r ≡ flatWritten (written Fields.Short [] (now (out .entry))) ⌝ }
     ensures { λ _. ⌜ now (out .exit) ≡ left Fields.Short [] (now (out .entry)) ⌝ }
 {
-    flat_written(write::write_short(out))
+    flat::written(write::write_short(out))
 }
 
 // Lists a capture. The least output is 139274 octets: to a shorter one the answer is 0.
@@ -236,4 +74,296 @@ pub extern "C" fn cihlomet_list(capture: &[u8], out: &mut [u8]) -> usize
     ensures { λ _. ⌜ now (out .exit) ≡ Listing·left (now (capture .entry)) (now (out .entry)) ⌝ }
 {
     capture::list(capture, out)
+}
+
+// Starts a station with a set of masters, active access points and rows of so many places.
+#[no_mangle]
+pub extern "C" fn cihlomet_start(
+    settings: FlatSettings,
+    ts: u8,
+    masters: &[u8; 127],
+    started: &mut [u8; 127],
+    marks: &mut [u8; 127],
+    points: &[u8; 64],
+    memory: &mut [u8; 255],
+    high: usize,
+    low: usize,
+) -> FlatRenewed
+    ensures { λ r. ⌜ filled r (now (masters .entry)) (now (started .exit)) (now (marks .exit)) (now (points .entry)) (now (memory .exit)) ≡ starting (startedOf (Calls·start (settingsFrom settings) ts (now (masters .entry)) (now (points .entry)) high low)) (now (masters .entry)) (now (started .entry)) (now (marks .entry)) (now (points .entry)) (now (memory .entry)) ⌝ }
+{
+    lending::start(
+        settings,
+        ts,
+        masters,
+        started,
+        marks,
+        points,
+        memory,
+        high,
+        low,
+    )
+}
+
+// Resets a station: confirms all unconfirmed requests DS, and begins afresh as it was started.
+#[no_mangle]
+pub extern "C" fn cihlomet_reset(
+    n: Numbers,
+    masters: &mut [u8; 127],
+    started: &[u8; 127],
+    marks: &mut [u8; 127],
+    points: &[u8; 64],
+    memory: &[u8; 255],
+    high: &mut [u8],
+    harea: &mut [u8],
+    low: &mut [u8],
+    larea: &mut [u8],
+) -> FlatRenewed
+    ensures { λ r. ⌜ held r (now (masters .exit)) (now (started .entry)) (now (marks .exit)) (now (points .entry)) (now (memory .entry)) (rows (now (high .exit)) (now (harea .exit))) (rows (now (low .exit)) (now (larea .exit))) [] ≡ resetting n (resetOf (Calls·reset (worldOf (stateIn n (now (masters .entry)) (now (started .entry)) (now (marks .entry)) (now (points .entry)) (now (memory .entry))) (rows (now (high .entry)) (now (harea .entry))) (rows (now (low .entry)) (now (larea .entry)))))) ⌝ }
+{
+    lending::reset(
+        n,
+        masters,
+        started,
+        marks,
+        points,
+        memory,
+        high,
+        harea,
+        low,
+        larea,
+    )
+}
+
+// Submits a request to the high queue.
+#[no_mangle]
+pub extern "C" fn cihlomet_submit_high(
+    n: Numbers,
+    masters: &[u8; 127],
+    started: &[u8; 127],
+    marks: &[u8; 127],
+    points: &[u8; 64],
+    memory: &[u8; 255],
+    service: u8,
+    destination: u8,
+    to: u8,
+    from: u8,
+    data: &[u8],
+    row: &mut [u8],
+    area: &mut [u8],
+) -> FlatAccepted
+    ensures { λ a. ⌜ lodged a (now (masters .entry)) (now (started .entry)) (now (marks .entry)) (now (points .entry)) (now (memory .entry)) (now (row .exit)) (now (area .exit)) ≡ submitting n Priority.High (Calls·submit Priority.High (requestFrom service destination to from) (now («data» .entry)) (lent Priority.High (stateIn n (now (masters .entry)) (now (started .entry)) (now (marks .entry)) (now (points .entry)) (now (memory .entry))) (rows (now (row .entry)) (now (area .entry))))) ⌝ }
+{
+    let r = handover::request_from(service, destination, to, from);
+    lending::submit(
+        Priority::High,
+        n,
+        masters,
+        started,
+        marks,
+        points,
+        memory,
+        r,
+        data,
+        row,
+        area,
+    )
+}
+
+// Submits a request to the low queue.
+#[no_mangle]
+pub extern "C" fn cihlomet_submit_low(
+    n: Numbers,
+    masters: &[u8; 127],
+    started: &[u8; 127],
+    marks: &[u8; 127],
+    points: &[u8; 64],
+    memory: &[u8; 255],
+    service: u8,
+    destination: u8,
+    to: u8,
+    from: u8,
+    data: &[u8],
+    row: &mut [u8],
+    area: &mut [u8],
+) -> FlatAccepted
+    ensures { λ a. ⌜ lodged a (now (masters .entry)) (now (started .entry)) (now (marks .entry)) (now (points .entry)) (now (memory .entry)) (now (row .exit)) (now (area .exit)) ≡ submitting n Priority.Low (Calls·submit Priority.Low (requestFrom service destination to from) (now («data» .entry)) (lent Priority.Low (stateIn n (now (masters .entry)) (now (started .entry)) (now (marks .entry)) (now (points .entry)) (now (memory .entry))) (rows (now (row .entry)) (now (area .entry))))) ⌝ }
+{
+    let r = handover::request_from(service, destination, to, from);
+    lending::submit(
+        Priority::Low,
+        n,
+        masters,
+        started,
+        marks,
+        points,
+        memory,
+        r,
+        data,
+        row,
+        area,
+    )
+}
+
+// Hands back the oldest confirmed record of the high queue and frees its place.
+#[no_mangle]
+pub extern "C" fn cihlomet_collect_high(
+    n: Numbers,
+    masters: &[u8; 127],
+    started: &[u8; 127],
+    marks: &[u8; 127],
+    points: &[u8; 64],
+    memory: &[u8; 255],
+    row: &[u8],
+    area: &[u8],
+) -> FlatCollected
+    ensures { λ a. ⌜ lodged a (now (masters .entry)) (now (started .entry)) (now (marks .entry)) (now (points .entry)) (now (memory .entry)) (now (row .entry)) (now (area .entry)) ≡ collecting n Priority.High (Calls·collect Priority.High (lent Priority.High (stateIn n (now (masters .entry)) (now (started .entry)) (now (marks .entry)) (now (points .entry)) (now (memory .entry))) (rows (now (row .entry)) (now (area .entry))))) ⌝ }
+{
+    lending::collect(
+        Priority::High,
+        n,
+        masters,
+        started,
+        marks,
+        points,
+        memory,
+        row,
+        area,
+    )
+}
+
+// Hands back the oldest confirmed record of the low queue and frees its place.
+#[no_mangle]
+pub extern "C" fn cihlomet_collect_low(
+    n: Numbers,
+    masters: &[u8; 127],
+    started: &[u8; 127],
+    marks: &[u8; 127],
+    points: &[u8; 64],
+    memory: &[u8; 255],
+    row: &[u8],
+    area: &[u8],
+) -> FlatCollected
+    ensures { λ a. ⌜ lodged a (now (masters .entry)) (now (started .entry)) (now (marks .entry)) (now (points .entry)) (now (memory .entry)) (now (row .entry)) (now (area .entry)) ≡ collecting n Priority.Low (Calls·collect Priority.Low (lent Priority.Low (stateIn n (now (masters .entry)) (now (started .entry)) (now (marks .entry)) (now (points .entry)) (now (memory .entry))) (rows (now (row .entry)) (now (area .entry))))) ⌝ }
+{
+    lending::collect(
+        Priority::Low,
+        n,
+        masters,
+        started,
+        marks,
+        points,
+        memory,
+        row,
+        area,
+    )
+}
+
+// A string of octets was heard, with the room for an indication and the two updates.
+#[no_mangle]
+pub extern "C" fn cihlomet_hear<'a>(
+    n: Numbers,
+    masters: &mut [u8; 127],
+    started: &[u8; 127],
+    marks: &mut [u8; 127],
+    points: &[u8; 64],
+    memory: &mut [u8; 255],
+    clock: u32,
+    room: u8,
+    first: &'a [u8],
+    second: &'a [u8],
+    octets: &[u8],
+    high: &mut [u8],
+    harea: &mut [u8],
+    low: &mut [u8],
+    larea: &mut [u8],
+    out: &mut [u8],
+) -> FlatAnswer
+    ensures { λ r. ⌜ held r (now (masters .exit)) (now (started .entry)) (now (marks .exit)) (now (points .entry)) (now (memory .exit)) (rows (now (high .exit)) (now (harea .exit))) (rows (now (low .exit)) (now (larea .exit))) (now (out .exit)) ≡ holding n (standing (Calls·frame clock (roomOf room) (now (first .entry)) (now (second .entry)) (now (octets .entry)) (length (now (out .entry))) (worldIn (coreIn n) (keptIn n) (now (masters .entry)) (now (started .entry)) (now (marks .entry)) (now (points .entry)) (now (memory .entry)) (rows (now (high .entry)) (now (harea .entry))) (rows (now (low .entry)) (now (larea .entry))))) (now (out .entry))) ⌝ }
+{
+    heeding::hear(
+        n,
+        masters,
+        started,
+        marks,
+        points,
+        memory,
+        clock,
+        room,
+        first,
+        second,
+        octets,
+        high,
+        harea,
+        low,
+        larea,
+        out,
+    )
+}
+
+// What the station gave to be sent has gone out.
+#[no_mangle]
+pub extern "C" fn cihlomet_sent(
+    n: Numbers,
+    masters: &[u8; 127],
+    started: &[u8; 127],
+    marks: &mut [u8; 127],
+    points: &[u8; 64],
+    memory: &[u8; 255],
+    clock: u32,
+    high: &mut [u8],
+    harea: &mut [u8],
+    low: &mut [u8],
+    larea: &mut [u8],
+    out: &mut [u8],
+) -> FlatAnswer
+    ensures { λ r. ⌜ held r (now (masters .entry)) (now (started .entry)) (now (marks .exit)) (now (points .entry)) (now (memory .entry)) (rows (now (high .exit)) (now (harea .exit))) (rows (now (low .exit)) (now (larea .exit))) (now (out .exit)) ≡ holding n (standing (Calls·sent clock (length (now (out .entry))) (worldIn (coreIn n) (keptIn n) (now (masters .entry)) (now (started .entry)) (now (marks .entry)) (now (points .entry)) (now (memory .entry)) (rows (now (high .entry)) (now (harea .entry))) (rows (now (low .entry)) (now (larea .entry))))) (now (out .entry))) ⌝ }
+{
+    heeding::sent(
+        n,
+        masters,
+        started,
+        marks,
+        points,
+        memory,
+        clock,
+        high,
+        harea,
+        low,
+        larea,
+        out,
+    )
+}
+
+// The slot time expired.
+#[no_mangle]
+pub extern "C" fn cihlomet_slot(
+    n: Numbers,
+    masters: &mut [u8; 127],
+    started: &[u8; 127],
+    marks: &mut [u8; 127],
+    points: &[u8; 64],
+    memory: &[u8; 255],
+    clock: u32,
+    high: &mut [u8],
+    harea: &mut [u8],
+    low: &mut [u8],
+    larea: &mut [u8],
+    out: &mut [u8],
+) -> FlatAnswer
+    ensures { λ r. ⌜ held r (now (masters .exit)) (now (started .entry)) (now (marks .exit)) (now (points .entry)) (now (memory .entry)) (rows (now (high .exit)) (now (harea .exit))) (rows (now (low .exit)) (now (larea .exit))) (now (out .exit)) ≡ holding n (standing (Calls·slot clock (length (now (out .entry))) (worldIn (coreIn n) (keptIn n) (now (masters .entry)) (now (started .entry)) (now (marks .entry)) (now (points .entry)) (now (memory .entry)) (rows (now (high .entry)) (now (harea .entry))) (rows (now (low .entry)) (now (larea .entry))))) (now (out .entry))) ⌝ }
+{
+    heeding::slot(
+        n,
+        masters,
+        started,
+        marks,
+        points,
+        memory,
+        clock,
+        high,
+        harea,
+        low,
+        larea,
+        out,
+    )
 }

@@ -1,0 +1,12 @@
+-- `board::hold_in` meets its contract: number by number. Assumes nothing.
+use mathlib.Core.Path.{refl}
+use Rattle.board.specs.Board.{holdIn}
+use Rattle.board.proofs.hold_in.Statement.{statement}
+use Rattle.board.proofs.hold_in.Tie as tie
+
+returns : tie.Need-returns
+unfolding holdIn
+returns c = refl
+
+pub hold-in-spec : {M : Type 1} → statement M
+hold-in-spec = tie.close (tie.spec returns)

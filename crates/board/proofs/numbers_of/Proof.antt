@@ -1,0 +1,19 @@
+-- `board::numbers_of` meets its contract: number by number. Assumes nothing.
+use Rattle.board.specs.Board.{numbersOf}
+use borrow.Author.Needs.{needs}
+use Rattle.board.proofs.numbers_of.Statement.{statement}
+use Rattle.board.proofs.numbers_of.Tie as tie
+
+returns : tie.Need-returns
+unfolding numbersOf
+returns c = cc
+
+pub numbers-of-spec : {M : Type 1} → statement M
+numbers-of-spec =
+    tie.close
+    (tie.spec
+    (λ c κs. search needs)
+    (λ c κs. search needs)
+    (λ c κs. search needs)
+    (λ c κs. search needs)
+    returns)

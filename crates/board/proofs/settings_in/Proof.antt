@@ -1,0 +1,12 @@
+-- `board::settings_in` meets its contract: each setting by its number. Assumes nothing.
+use mathlib.Core.Path.{refl}
+use Rattle.board.specs.Board.{settingsIn}
+use Rattle.board.proofs.settings_in.Statement.{statement}
+use Rattle.board.proofs.settings_in.Tie as tie
+
+returns : tie.Need-returns
+unfolding settingsIn
+returns c = refl
+
+pub settings-in-spec : {M : Type 1} → statement M
+settings-in-spec = tie.close (tie.spec returns)

@@ -1,0 +1,12 @@
+-- `board::shown` meets its contract: field by field. Assumes nothing.
+use Rattle.board.specs.Board.{indicationOf}
+use borrow.Author.Needs.{needs}
+use Rattle.board.proofs.shown.Statement.{statement}
+use Rattle.board.proofs.shown.Tie as tie
+
+returns : tie.Need-returns
+unfolding indicationOf
+returns c = cc
+
+pub shown-spec : {M : Type 1} → statement M
+shown-spec = tie.close (tie.spec (λ c κs. search needs) (λ c κs. search needs) (λ c κs. search needs) returns)

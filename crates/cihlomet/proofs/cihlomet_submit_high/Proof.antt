@@ -1,0 +1,11 @@
+-- `cihlomet::cihlomet_submit_high` meets its contract: submit to the high queue of the request that the numbers mean. Assumes nothing.
+use borrow.Author.Needs.{needs}
+use Rattle.cihlomet.proofs.cihlomet_submit_high.Statement.{statement}
+use Rattle.cihlomet.proofs.cihlomet_submit_high.Tie as tie
+
+returns : tie.Need-returns
+returns c = rw (← c .before .before .before .before .before .before .before .request-from .ensures) (c .before .before .before .before .submit .ensures)
+
+pub cihlomet-submit-high-spec : {M : Type 1} → statement M
+cihlomet-submit-high-spec =
+    tie.close (tie.spec (λ c κs. search needs) (λ c κs. search needs) (λ c. search needs) (λ c. search needs) returns)

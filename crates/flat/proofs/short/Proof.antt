@@ -1,0 +1,13 @@
+-- `flat::short` meets its contract: form 2, and where the data lie.
+-- Assumes nothing.
+use Rattle.flat.specs.Flat.{flat}
+use mathlib.Core.Path.{refl}
+use Rattle.flat.proofs.short.Statement.{statement}
+use Rattle.flat.proofs.short.Tie as tie
+
+returns : tie.Need-returns
+unfolding flat
+returns c = refl
+
+pub short-spec : {M : Type 1} → statement M
+short-spec = tie.close (tie.spec returns)
