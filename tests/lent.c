@@ -8,10 +8,10 @@
 #include <sys/mman.h>
 #include <unistd.h>
 
-enum { MOST_WORDS = 9 };
+enum { MOST_WORDS = 16 };
 enum { FENCE = 1 << 16 };
 
-static char *line;          /* the call being answered */
+static const char *line;    /* the call being answered */
 static char place[32] = ""; /* its line in the script, in words */
 
 void stop(const char *why)
@@ -121,16 +121,28 @@ static void ask(char *text, const struct call *calls, size_t count)
     stop("no call");
 }
 
-int answer_all(const struct call *calls, size_t count)
+void watch(void)
 {
     static const int faults[] = {SIGSEGV, SIGBUS, SIGILL, SIGFPE, SIGABRT, SIGTERM};
-    size_t size = 0, lines = 0;
     for (size_t i = 0; i < sizeof faults / sizeof faults[0]; i++)
         signal(faults[i], fault);
-    for (ssize_t length; (length = getline(&line, &size, stdin)) > 0;) {
-        line[strcspn(line, "\n")] = '\0';
-        snprintf(place, sizeof place, "line %zu: ", ++lines);
-        char *text = strdup(line);
+}
+
+void name_call(size_t number, const char *text)
+{
+    snprintf(place, sizeof place, "line %zu: ", number);
+    line = text;
+}
+
+int answer_all(const struct call *calls, size_t count)
+{
+    char *given = NULL;
+    size_t size = 0, lines = 0;
+    watch();
+    for (ssize_t length; (length = getline(&given, &size, stdin)) > 0;) {
+        given[strcspn(given, "\n")] = '\0';
+        name_call(++lines, given);
+        char *text = strdup(given);
         if (text == NULL)
             stop("no memory");
         ask(text, calls, count);

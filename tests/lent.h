@@ -19,6 +19,10 @@ struct call {
 /* Stops the program and names the call being answered. */
 _Noreturn void stop(const char *why);
 
+/* From then on a fault names the call being answered, and which that is: a line of the script, which must stay. */
+void watch(void);
+void name_call(size_t number, const char *text);
+
 /* Memory of ROOM octets with a fence behind it that may not be touched; gives the fence's address. */
 uint8_t *fenced(void);
 

@@ -114,7 +114,7 @@ fn drain(random: &mut Random) -> String {
 }
 
 /// The octets of a record that submit takes of most stations.
-fn record(random: &mut Random) -> [u8; RECORD] {
+pub fn record(random: &mut Random) -> [u8; RECORD] {
     let point = |random: &mut Random| if random.one_in(2) { NO_POINT } else { random.below(63) as u8 };
     let (service, destination) = (random.pick(&SERVICES), random.below(127) as u8);
     let (to, from, length) = (point(random), point(random), data_count(random, 244) as u8);
@@ -122,7 +122,7 @@ fn record(random: &mut Random) -> [u8; RECORD] {
 }
 
 /// What submit may refuse in a record, each in one way or just not.
-const FAULTS: [fn(&mut [u8; RECORD], &mut Random, u8); 7] = [
+pub const FAULTS: [fn(&mut [u8; RECORD], &mut Random, u8); 7] = [
     |record, random, _| record[0] = random.octet(),
     |record, _, own| record[1] = own,
     |record, random, _| record[1] = random.pick(&[126, 127, 128, 255]),

@@ -2,21 +2,27 @@
 
 mod answer;
 mod answering;
+mod breaks;
 mod call;
 mod capture;
+mod cases;
 mod draft;
 mod events;
+mod forged;
 mod frame;
+mod grounds;
 mod hold;
 mod lends;
 mod lister;
 mod nonsense;
+mod oddities;
 mod parts;
 mod pass;
 mod peers;
 mod queue;
 mod random;
 mod reach;
+mod refusal;
 mod replay;
 mod request;
 mod ring;
@@ -51,6 +57,9 @@ reference parts               a script of times, rings or rows on standard input
 reference runs SEED CALLS     a replay script of many stations, with CALLS lines at least
 reference replay              a replay script on standard input: its answers
 reference transitions         a replay script on standard input: how often it took each transition
+reference forged SEED COUNT   a script of COUNT calls on forged stations
+reference refusal             a script of forged stations on standard input: the refusals
+reference grounds             a script of forged stations on standard input: how often each ground decided
 ";
 
 fn main() -> ExitCode {
@@ -64,7 +73,7 @@ fn main() -> ExitCode {
     }
 }
 
-/// Runs the subcommand; false if `reach` or `transitions` found something missing.
+/// Runs the subcommand; false if `reach`, `transitions` or `grounds` found something missing.
 fn run() -> Result<bool, String> {
     let arguments: Vec<String> = std::env::args().skip(1).collect();
     let words: Vec<&str> = arguments.iter().map(String::as_str).collect();
@@ -87,6 +96,9 @@ fn run() -> Result<bool, String> {
         ["runs", seed, calls] => lines(runs::runs(number(seed)?, number(calls)? as usize)),
         ["replay"] => replay::Replay::default().answers(&standard_input()?).into_bytes(),
         ["transitions"] => return transitions_taken(),
+        ["forged", seed, count] => lines(forged::forged(number(seed)?, number(count)? as usize)),
+        ["refusal"] => lines(answers(|line| Ok(refusal::answer(&cases::Case::read(line)?)))?),
+        ["grounds"] => return grounds_met(),
         _ => return Err(USAGE.to_string()),
     };
     put(&output)?;
@@ -131,6 +143,16 @@ fn reached() -> Result<bool, String> {
 fn transitions_taken() -> Result<bool, String> {
     replay::Replay::default().answers(&standard_input()?);
     let (report, all) = transitions::report();
+    put(report.as_bytes())?;
+    Ok(all)
+}
+
+fn grounds_met() -> Result<bool, String> {
+    let mut met = grounds::Met::default();
+    for line in io::stdin().lock().lines() {
+        met.add(&cases::Case::read(&line.map_err(|error| error.to_string())?)?);
+    }
+    let (report, all) = met.report();
     put(report.as_bytes())?;
     Ok(all)
 }

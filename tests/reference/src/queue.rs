@@ -8,7 +8,7 @@ use crate::transitions::{note, Transition};
 /// The most places of a row.
 pub const LONGEST_ROW: u8 = 64;
 
-/// A refusal's number in document 01, 20 to 28.
+/// A refusal's number in document 01, 20 to 29.
 pub type Refusal = u8;
 
 #[derive(Clone, Copy, Debug, PartialEq)]

@@ -19,7 +19,7 @@ const WAITING: u8 = 255;
 const NO_POINT: u8 = 255;
 
 /// What an area holds before the first call.
-const UNTOUCHED: u8 = 0xAA;
+pub const UNTOUCHED: u8 = 0xAA;
 
 /// More than any row's area: one laid out larger is cut to this, and is refused all the same.
 const LARGEST_AREA: usize = 1 << 20;
@@ -39,7 +39,7 @@ pub struct Record {
 
 impl Record {
     /// The record that a place's octets hold, whatever they are.
-    fn read(place: usize, octets: &[u8]) -> Record {
+    pub fn read(place: usize, octets: &[u8]) -> Record {
         let point = |octet: u8| (octet != NO_POINT).then_some(octet);
         Record {
             place,
@@ -54,7 +54,7 @@ impl Record {
     }
 
     /// The request that submit judges. Every service that it does not take is alike to it.
-    fn request(&self, data: Vec<u8>) -> Request {
+    pub fn request(&self, data: Vec<u8>) -> Request {
         let service = match self.service {
             3 => Service::Sda,
             4 => Service::Sdn,

@@ -93,12 +93,13 @@ const FAULTS: [fn(&mut Draft, &mut Random); 15] = [
 ];
 
 /// The longest TTD for which TSL is in rule.
-fn longest_delay(settings: &Settings) -> u32 {
+pub fn longest_delay(settings: &Settings) -> u32 {
     let without = Settings { ttd: 0, ..settings.clone() }.tsl();
     65_535_u32.saturating_sub(without) / 2
 }
 
-fn settings(random: &mut Random) -> Settings {
+/// Settings in rule.
+pub fn settings(random: &mut Random) -> Settings {
     let any =
         |random: &mut Random, least: u32, most: u32| least + random.below((most - least + 1) as usize) as u32;
     let tqui = if random.one_in(2) { 0 } else { any(random, 0, 255) };
@@ -121,7 +122,7 @@ fn settings(random: &mut Random) -> Settings {
 }
 
 /// TS, often at an end of the addresses, and a ring of up to eight with it.
-fn masters(random: &mut Random) -> (u8, Vec<u8>) {
+pub fn masters(random: &mut Random) -> (u8, Vec<u8>) {
     let anywhere = random.below(usize::from(ADDRESSES)) as u8;
     let address = random.pick(&[0, 1, 125, 126, 2, anywhere, anywhere, anywhere]);
     let mut masters = vec![address];
@@ -149,7 +150,8 @@ fn points(random: &mut Random) -> Vec<Option<u8>> {
     }
 }
 
-fn row(random: &mut Random) -> u8 {
+/// Places of a row, mostly few.
+pub fn row(random: &mut Random) -> u8 {
     let anything = 1 + random.below(64) as u8;
     random.pick(&[1, 2, 2, 3, 3, 4, 5, 8, 64, anything])
 }
