@@ -1,0 +1,22 @@
+-- `booked::reset` meets its contract: what the call told, and its line.
+-- Assumes nothing.
+use borrow.Author.Needs.{needs}
+use Rattle.booked.proofs.reset.Statement.{statement}
+use Rattle.booked.proofs.reset.Tie as tie
+use Rattle.booked.proofs.Told.{reset-told}
+
+returns : tie.Need-returns
+returns c = reset-told _ _ (c .before .before .before .before .before .before .before .before .before .before .before .before .before .reset .ensures) (c .before .before .plain .ensures)
+
+pub reset-spec : {M : Type 1} → statement M
+reset-spec =
+    tie.close
+    (tie.spec
+    (λ c κs. search needs)
+    (λ c κs. search needs)
+    (λ c. search needs)
+    (λ c. search needs)
+    (λ c. search needs)
+    (λ c. search needs)
+    (λ c. search needs)
+    returns)
