@@ -1,0 +1,72 @@
+-- `desk::go_on` meets its contract: nothing before the first start, else the call on the rows in their arrays.
+-- Assumes nothing.
+use borrow.Author.Needs.{needs}
+use Rattle.desk.proofs.go_on.Statement.{statement}
+use Rattle.desk.proofs.go_on.Tie as tie
+use Prim.Native.Nat.{_*_}
+use mathlib.Core.Path.{sym, _∙_}
+use native.Mathlib.Omega.{arith}
+use lib.Seq.{length-take-le}
+use borrow.Author.Tests.{not-true, not-false}
+use Rattle.desk.proofs.Holding.{unbegun, goes-on}
+
+unknown-requires : tie.Need-unknown-requires
+unknown-requires c κs = omega (arith, c .before .before .before .before .before .before .before .before .before .before .pre .0 .text)
+
+returns : tie.Need-returns
+returns c = let a = c .before .before .before .before .before .before .before .before .before .before .before .before .before .args in unbegun (a .call) (a .line .now) (a .h) (a .high .now) (a .harea .now) (a .low .now) (a .larea .now) (a .text .now) (not-true _ (c .before .before .before .before .if1 .taken)) (c .before .before .before .before .before .before .before .before .before .before .before .before .before .pre .1) (c .before .before .unknown .ensures)
+
+slice-aggregate-play : tie.Need-slice-aggregate-play
+slice-aggregate-play c = sym (length-take-le (7 * c .before .before .before .before .before .before .before .before .before .before .args .h .high) (c .before .before .before .before .before .before .before .before .before .before .args .high .now) (omega (arith, c .before .before .before .before .before .before .before .before .before .before .pre .0 .high, c .before .before .before .before .before .before .before .before .before .before .pre .1 .high)))
+
+slice-aggregate-play-2 : tie.Need-slice-aggregate-play-2
+slice-aggregate-play-2 c = sym (length-take-le (246 * c .before .before .before .before .before .before .before .before .before .before .before .args .h .high) (c .before .before .before .before .before .before .before .before .before .before .before .args .harea .now) (omega (arith, c .before .before .before .before .before .before .before .before .before .before .before .pre .0 .harea, c .before .before .before .before .before .before .before .before .before .before .before .pre .1 .high)))
+
+slice-aggregate-play-3 : tie.Need-slice-aggregate-play-3
+slice-aggregate-play-3 c = sym (length-take-le (7 * c .before .before .before .before .before .before .before .before .before .before .before .before .args .h .low) (c .before .before .before .before .before .before .before .before .before .before .before .before .args .low .now) (omega (arith, c .before .before .before .before .before .before .before .before .before .before .before .before .pre .0 .low, c .before .before .before .before .before .before .before .before .before .before .before .before .pre .1 .low)))
+
+slice-aggregate-play-4 : tie.Need-slice-aggregate-play-4
+slice-aggregate-play-4 c = sym (length-take-le (246 * c .before .before .before .before .before .before .before .before .before .before .before .before .before .args .h .low) (c .before .before .before .before .before .before .before .before .before .before .before .before .before .args .larea .now) (omega (arith, c .before .before .before .before .before .before .before .before .before .before .before .before .before .pre .0 .larea, c .before .before .before .before .before .before .before .before .before .before .before .before .before .pre .1 .low)))
+
+play-requires : tie.Need-play-requires
+play-requires c κs = (c .before .before .before .before .before .before .before .before .before .before .before .before .before .before .pre .2, omega (arith, c .before .before .before .before .before .before .before .before .before .before .before .before .before .before .pre .0 .text))
+
+returns-2 : tie.Need-returns-2
+returns-2 c =
+    let a = c .before .before .before .before .before .before .before .before .before .before .before .before .before .before .before .before .before .before .before .before .before .before .before .before .before .before .args in
+    let w = c .before .before .before .before .before .before .before .before .before .before .before .before .before .before .before .before .before .before .before .before .before .before .before .before .before .before .pre .0 in
+    let f = c .before .before .before .before .before .before .before .before .before .before .before .before .before .before .before .before .before .before .before .before .before .before .before .before .before .before .pre .1 in
+    let k = c .before .before .before .before .before .before .before .before .before .before .before .play .kept .1 .1 .1 in
+    goes-on (a .call) (a .line .now) (a .h) (a .high .now) (a .harea .now) (a .low .now) (a .larea .now) (a .text .now) w f (not-false _ (c .before .before .before .before .before .before .before .before .before .before .before .before .before .before .before .before .before .if1 .left)) (c .before .before .before .before .before .before .before .before .before .before .before .play .ensures)
+    (k .0 ∙ length-take-le (7 * a .h .high) (a .high .now) (omega (arith, w .high, f .high)))
+    (k .1 .0 ∙ length-take-le (246 * a .h .high) (a .harea .now) (omega (arith, w .harea, f .high)))
+    (k .1 .1 .0 ∙ length-take-le (7 * a .h .low) (a .low .now) (omega (arith, w .low, f .low)))
+    (k .1 .1 .1 .0 ∙ length-take-le (246 * a .h .low) (a .larea .now) (omega (arith, w .larea, f .low)))
+    (k .1 .1 .1 .1 .0)
+
+pub go-on-spec : {M : Type 1} → statement M
+go-on-spec =
+    tie.close
+    (tie.spec
+    unknown-requires
+    (λ c. search needs)
+    returns
+    (λ c. search needs)
+    (λ c. search needs)
+    slice-aggregate-play
+    (λ c. search needs)
+    (λ c. search needs)
+    slice-aggregate-play-2
+    (λ c. search needs)
+    (λ c. search needs)
+    slice-aggregate-play-3
+    (λ c. search needs)
+    (λ c. search needs)
+    slice-aggregate-play-4
+    play-requires
+    (λ c. search needs)
+    (λ c. search needs)
+    (λ c. search needs)
+    (λ c. search needs)
+    (λ c. search needs)
+    returns-2)

@@ -1,0 +1,195 @@
+// What replay holds, and what each line does to it: the whole of the replay script's page but for reading the lines and
+// writing the answers. Assumes nothing.
+ghost use mathlib.Core.Path.{_≡_};
+ghost use Prim.Native.Nat.{_≤_};
+ghost use lib.ListN.{length, replicate};
+ghost use Rattle.places.specs.Places.{SHORT as Places·SHORT};
+ghost use Rattle.operands.specs.Operands.{numberAt};
+ghost use Rattle.play.specs.Play.{startBy};
+ghost use Rattle.desk.specs.Desk.{Arrays, Few, Answers, deskOf, starts as Desk·starts, starting, answerOther, answerBy, answer as Desk·answer};
+use script::Call;
+use state::State;
+
+const SHORT: u32 = 255;
+
+const COMMENT: u8 = 0x23;
+
+const LONGEST: usize = 4096;
+
+// What is held beside the arrays of the rows: whether a start was accepted, how many places each row has, and the state.
+pub struct Held {
+    pub begun: bool,
+    pub high: usize,
+    pub low: usize,
+    pub state: State,
+}
+
+// What a line leaves, and the length of what it prints.
+pub struct Said {
+    pub held: Held,
+    pub length: usize,
+}
+
+// Fills an array with zeros.
+fn clear(a: &mut [u8])
+    ensures { λ _. ⌜ now (a .exit) ≡ replicate (length (now (a .entry))) 0 ⌝ }
+{
+    let mut i = 0;
+    while i < a.len() {
+        a[i] = 0;
+        i += 1;
+    }
+}
+
+// Starts a station; an accepted start clears the rows.
+fn begin(
+    h: Held,
+    line: &[u8],
+    high: &mut [u8],
+    harea: &mut [u8],
+    low: &mut [u8],
+    larea: &mut [u8],
+    text: &mut [u8],
+) -> Said
+    requires { ⌜ (Arrays (now high) (now harea) (now low) (now larea) (now text)) × (Few h) ⌝ }
+    ensures { λ r. ⌜ Answers (starting (startBy (now (line .entry))) (numberAt (now (line .entry)) 11 Places·SHORT) (numberAt (now (line .entry)) 12 Places·SHORT) (deskOf h (now (high .entry)) (now (harea .entry)) (now (low .entry)) (now (larea .entry)))) (now (text .entry)) r (now (high .exit)) (now (harea .exit)) (now (low .exit)) (now (larea .exit)) (now (text .exit)) ⌝ }
+{
+    let r = play::start(line);
+    let state = r.state;
+    let length = saying::plain(r.refused, text);
+    if r.refused != 0 {
+        return Said { held: h, length };
+    }
+    clear(high);
+    clear(harea);
+    clear(low);
+    clear(larea);
+    Said {
+        held: Held {
+            begun: true,
+            high: operands::number(line, 11, SHORT) as usize,
+            low: operands::number(line, 12, SHORT) as usize,
+            state,
+        },
+        length,
+    }
+}
+
+// Plays a call that is no start.
+fn go_on(
+    h: Held,
+    call: Call,
+    line: &[u8],
+    high: &mut [u8],
+    harea: &mut [u8],
+    low: &mut [u8],
+    larea: &mut [u8],
+    text: &mut [u8],
+) -> Said
+    requires { ⌜ (Arrays (now high) (now harea) (now low) (now larea) (now text)) × (Few h) × (length (now line) ≤ 4096) ⌝ }
+    ensures { λ r. ⌜ Answers (answerOther call (now (line .entry)) (deskOf h (now (high .entry)) (now (harea .entry)) (now (low .entry)) (now (larea .entry)))) (now (text .entry)) r (now (high .exit)) (now (harea .exit)) (now (low .exit)) (now (larea .exit)) (now (text .exit)) ⌝ }
+{
+    let n = h.high;
+    let m = h.low;
+    let s = h.state;
+    if !h.begun {
+        return Said {
+            held: h,
+            length: saying::unknown(text),
+        };
+    }
+    let p = play::play(
+        call,
+        s,
+        line,
+        &mut high[..7 * n],
+        &mut harea[..246 * n],
+        &mut low[..7 * m],
+        &mut larea[..246 * m],
+        text,
+    );
+    let state = p.state;
+    Said {
+        held: Held {
+            begun: true,
+            high: n,
+            low: m,
+            state,
+        },
+        length: p.length,
+    }
+}
+
+// Whether a call is a start.
+fn starts(call: Call) -> bool
+    ensures { λ r. ⌜ r ≡ Desk·starts call ⌝ }
+{
+    match call {
+        Call::Unknown => false,
+        Call::Start => true,
+        Call::Submit => false,
+        Call::Frame => false,
+        Call::Sent => false,
+        Call::Slot => false,
+        Call::Reset => false,
+        Call::Collect => false,
+        Call::Show => false,
+    }
+}
+
+// Answers a line by the call that it is.
+fn answer_by(
+    h: Held,
+    call: Call,
+    line: &[u8],
+    high: &mut [u8],
+    harea: &mut [u8],
+    low: &mut [u8],
+    larea: &mut [u8],
+    text: &mut [u8],
+) -> Said
+    requires { ⌜ (Arrays (now high) (now harea) (now low) (now larea) (now text)) × (Few h) × (length (now line) ≤ 4096) ⌝ }
+    ensures { λ r. ⌜ Answers (answerBy call (now (line .entry)) (deskOf h (now (high .entry)) (now (harea .entry)) (now (low .entry)) (now (larea .entry)))) (now (text .entry)) r (now (high .exit)) (now (harea .exit)) (now (low .exit)) (now (larea .exit)) (now (text .exit)) ⌝ }
+{
+    if starts(call) {
+        return begin(h, line, high, harea, low, larea, text);
+    }
+    go_on(h, call, line, high, harea, low, larea, text)
+}
+
+// Answers a line: what it prints stands at the start of the text.
+pub fn answer(
+    h: Held,
+    line: &[u8],
+    high: &mut [u8],
+    harea: &mut [u8],
+    low: &mut [u8],
+    larea: &mut [u8],
+    text: &mut [u8],
+) -> Said
+    requires { ⌜ (Arrays (now high) (now harea) (now low) (now larea) (now text)) × (Few h) ⌝ }
+    ensures { λ r. ⌜ Answers (Desk·answer (now (line .entry)) (deskOf h (now (high .entry)) (now (harea .entry)) (now (low .entry)) (now (larea .entry)))) (now (text .entry)) r (now (high .exit)) (now (harea .exit)) (now (low .exit)) (now (larea .exit)) (now (text .exit)) ⌝ }
+{
+    if line.len() == 0 {
+        return Said { held: h, length: 0 };
+    }
+    if line[0] == COMMENT {
+        return Said { held: h, length: 0 };
+    }
+    if LONGEST < line.len() {
+        return Said {
+            held: h,
+            length: saying::unknown(text),
+        };
+    }
+    answer_by(
+        h,
+        script::call_of(line),
+        line,
+        high,
+        harea,
+        low,
+        larea,
+        text,
+    )
+}
