@@ -33,7 +33,7 @@ static void fault(int signal_number)
     (void)signal_number;
     complain("harness: ");
     complain(place);
-    complain("the library left its buffers, faulted or did not end in this call: ");
+    complain("the library or the harness left its buffers, faulted or did not end in this call: ");
     complain(line ? line : "");
     complain("\n");
     _exit(1);
