@@ -401,15 +401,19 @@ static void measure_frames(void)
     measure("list 4096 bodies", capture_count, list, lists);
 }
 
-static void measure_station(size_t each)
+/* Each call with rows of few places, and then with rows of many. */
+static void measure_station(void)
 {
-    places = each;
+    static const size_t counts[] = {4, MOST_PLACES};
     for (size_t i = 0; i < sizeof station_calls / sizeof station_calls[0]; i++) {
         const struct station_call *c = &station_calls[i];
-        if (c->only != 0 && c->only != places)
-            continue;
-        c->prepare();
-        measure(c->name, places, c->call, c->right);
+        for (size_t k = 0; k < sizeof counts / sizeof counts[0]; k++) {
+            places = counts[k];
+            if (c->only != 0 && c->only != places)
+                continue;
+            c->prepare();
+            measure(c->name, places, c->call, c->right);
+        }
     }
 }
 
@@ -422,7 +426,6 @@ int main(int argc, char **argv)
     look = strcmp(argv[1], "right") == 0;
     capture_count = fread(capture, 1, sizeof capture, stdin);
     measure_frames();
-    measure_station(4);
-    measure_station(MOST_PLACES);
+    measure_station();
     return 0;
 }
