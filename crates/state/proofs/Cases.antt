@@ -10,5 +10,9 @@ unfolding pick
 by P true x y f g = f refl
 by P false x y f g = g refl
 
+-- nothing is asked
+pub data Any : Type 0 where
+  any : Any
+
 pub positive : (n : ℕ) → (n ≡ 0 → ⊥) → 0 < n
 positive n h = omega (arith, h)

@@ -1,11 +1,11 @@
 -- Two rules in any state, of a run or not: a low request is chosen only while no high one waits; and a token from a stranger
 -- begins no hold the first time. Assumes nothing.
-use Prim.Native.Nat.{ℕ}
+use Prim.Native.Nat.{ℕ, _<_}
 use mathlib.Core.Bool.{Bool, true, false, true≢false}
-use mathlib.Core.Path.{_≡_, refl, sym, ap, _∙_}
+use mathlib.Core.Path.{_≡_, refl, sym, _∙_}
 use mathlib.Core.List.{List, [], _∷_}
 use native.Mathlib.Omega.{arith}
-use Rattle.choice.proofs.Rules.{true-same, false-less}
+use Rattle.choice.proofs.Rules.{true-same, true-less, false-less}
 use Rattle.frame.specs.declared.Address.{Address}
 use Rattle.frame.specs.declared.Part.{Part}
 use Rattle.frame.specs.declared.Fields.the-variants.{Token}
@@ -26,23 +26,37 @@ use Rattle.state.specs.Runs.{call}
 use Rattle.state.specs.Runs.Call.{frame}
 use Rattle.state.proofs.Cases.{by}
 
--- ---- "with time left, the first high, else the first low"
-serves-low : Choice → Bool
-serves-low (Serve High) = false
-serves-low (Serve Low) = true
-serves-low PassOn = false
+-- ---- what the choice saw: a request of the queue that it serves, for a low one no high one, and at a hold's start it
+-- passes no high one over
+unfoldable pub Saw : Bool → Core → Choice → Type 0
+Saw starts c (Serve High) = 0 < c .high .unconfirmed
+Saw starts c (Serve Low) = (0 < c .low .unconfirmed) × (c .high .unconfirmed ≡ 0)
+Saw starts c PassOn = starts ≡ true → c .high .unconfirmed ≡ 0
 
-not-low : {x : Choice} → serves-low x ≡ false → x ≡ Serve Low → ⊥
-unfolding serves-low
-not-low e z = true≢false (sym (ap serves-low z) ∙ e)
+pub saw : (starts : Bool) (c : Core) (clock : ℕ) → Saw starts c (choice starts c clock)
+unfolding choice Saw
+saw starts c clock =
+    by (Saw starts c) _ _ _
+    (λ e. by (Saw starts c) _ _ _ (λ i. true-less _ _ e)
+    (λ i. by (Saw starts c) _ _ _ (λ j. true-less _ _ e) (λ j z. absurd (true≢false (sym z ∙ i)))))
+    (λ e. let n = false-less _ _ e in by (Saw starts c) _ _ _
+    (λ i. by (Saw starts c) _ _ _ (λ j. (true-less _ _ j, omega (arith, n))) (λ j z. omega (arith, n)))
+    (λ i z. omega (arith, n)))
+
+pub saw-high : (starts : Bool) (c : Core) (clock : ℕ) → choice starts c clock ≡ Serve High → 0 < c .high .unconfirmed
+unfolding Saw
+saw-high starts c clock e = rw e at (saw starts c clock)
+
+pub saw-low : (starts : Bool) (c : Core) (clock : ℕ) → choice starts c clock ≡ Serve Low → (0 < c .low .unconfirmed) × (c .high .unconfirmed ≡ 0)
+unfolding Saw
+saw-low starts c clock e = rw e at (saw starts c clock)
+
+pub saw-none : (c : Core) (clock : ℕ) → choice true c clock ≡ PassOn → c .high .unconfirmed ≡ 0
+unfolding Saw
+saw-none c clock e = (rw e at (saw true c clock)) refl
 
 pub high-first : (starts : Bool) (c : Core) (clock : ℕ) → choice starts c clock ≡ Serve Low → c .high .unconfirmed ≡ 0
-unfolding choice serves-low
-high-first starts c clock =
-    by (λ (x : Choice). x ≡ Serve Low → c .high .unconfirmed ≡ 0) _ _ _
-    (λ e. by (λ (x : Choice). x ≡ Serve Low → c .high .unconfirmed ≡ 0) _ _ _ (λ i z. absurd (not-low refl z))
-    (λ i. by (λ (x : Choice). x ≡ Serve Low → c .high .unconfirmed ≡ 0) _ _ _ (λ j z. absurd (not-low refl z)) (λ j z. absurd (not-low refl z))))
-    (λ e z. let n = false-less _ _ e in omega arith)
+high-first starts c clock e = saw-low starts c clock e .1
 
 -- ---- "From another station it is ignored the first time"
 -- a hold begins among the events

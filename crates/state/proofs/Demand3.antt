@@ -5,7 +5,7 @@ use mathlib.Core.Bool.{Bool, true, false, true≢false}
 use mathlib.Core.Path.{_≡_, refl, sym, ap, _∙_}
 use mathlib.Core.List.{List, [], _∷_}
 use native.Mathlib.Omega.{arith}
-use Rattle.choice.proofs.Rules.{true-same, false-same, unrefused, is-said}
+use Rattle.choice.proofs.Rules.{pick-true, true-same, false-same, unrefused, is-said}
 use Rattle.times.specs.declared.Settings.{Settings}
 use Rattle.request.specs.declared.Record.{Record}
 use Rattle.queue.specs.declared.Queue.{Queue}
@@ -16,7 +16,6 @@ use Rattle.rows.specs.Rows.{Left}
 use Rattle.rows.proofs.Submitted.{Outcome, outcome}
 use Rattle.rows.proofs.Submitted.Outcome.{as-it-was, with-it}
 use Rattle.state.specs.declared.Phase.{Phase}
-use Rattle.state.specs.declared.Phase.the-variants.{Idle, Awaited, Sdn, Check, ToSelf}
 use Rattle.state.specs.declared.Priority.{Priority}
 use Rattle.state.specs.declared.Priority.the-variants.{High, Low}
 use Rattle.state.specs.declared.Doing.{Doing}
@@ -33,7 +32,8 @@ use Rattle.state.proofs.Cases.{by}
 use Rattle.state.proofs.Refused.{refuses}
 use Rattle.state.proofs.Places.{waiting-new, rowed-grown}
 use Rattle.state.proofs.Fates.{fresh-born, Fresh}
-use Rattle.state.proofs.Standing.{flight, Stage, off, ours, ahead, lower, Standing, waits, shut, gone, StandsAt}
+use Rattle.state.proofs.Phases.{flight, odd-by}
+use Rattle.state.proofs.Standing.{Stage, off, ours, ahead, lower, Standing, waits, shut, gone, StandsAt}
 use Rattle.state.proofs.Steps.{holds-run}
 use Rattle.state.proofs.Ordered.{run-orderly}
 use Rattle.state.proofs.Start.{begun-orderly}
@@ -87,12 +87,10 @@ lawful-odd c masters started k e =
 
 -- what is being sent from the high queue is in it
 some-sent : (x : Phase) (c : Core) (masters : List ℕ) → oddIn x c masters ≡ false → flight x ≡ true → c .doing .served ≡ High → 0 < c .high .unconfirmed
-unfolding oddIn flight queueOf
-some-sent Idle c masters o h e = absurd (true≢false (sym h))
-some-sent Awaited c masters o h e = let n = false-same _ _ (rw e at o) in omega (arith, n)
-some-sent Sdn c masters o h e = let n = false-same _ _ (rw e at o) in omega (arith, n)
-some-sent Check c masters o h e = absurd (true≢false (sym h))
-some-sent ToSelf c masters o h e = absurd (true≢false (sym h))
+unfolding queueOf
+some-sent x c masters o h e =
+    let n = false-same _ _ (rw e at (sym (odd-by x c masters ∙ pick-true _ _ h) ∙ o)) in
+    omega (arith, n)
 
 stage-new : (k limit : ℕ) (g : Doing) (b : Bool) (y : Priority) → flight (g .phase) ≡ b → g .served ≡ y → (flight (g .phase) ≡ true → g .served ≡ High → 0 < k) → Stage k limit k g newborn
 unfolding newborn

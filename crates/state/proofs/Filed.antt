@@ -1,9 +1,9 @@
 -- A queue in order with its row and its data: the counts, the lengths, every unconfirmed record one that submit would
 -- take, every confirmed one with a named status. Submit, a confirmation, a reset and collect keep it. Assumes nothing.
-use Prim.Native.Nat.{ℕ, zero, suc, _+_, _*_, _<_, _≤_}
+use Prim.Native.Nat.{ℕ, _+_, _*_, _<_, _≤_}
 use mathlib.Core.Bool.{true}
 use mathlib.Core.Path.{_≡_, refl}
-use mathlib.Core.List.{List, []}
+use mathlib.Core.List.{List}
 use native.Mathlib.Omega.{arith}
 use lib.ListN.{length}
 use Rattle.choice.specs.Choice.{pick, less, same}
@@ -13,7 +13,7 @@ use Rattle.queue.specs.declared.Queue.{Queue}
 use Rattle.queue.specs.declared.Taken.{Taken}
 use Rattle.queue.specs.Queue.{AREA, Ruled, place, current, closed, grown, confirmed, freed, take, refuse}
 use Rattle.queue.proofs.Laws.{ruled-confirmed, ruled-freed, place-below, place-apart, place-grown, place-confirmed, place-freed}
-use Rattle.rows.specs.Rows.{Lent, Left, left, at, put, confirm, drain, submitted}
+use Rattle.rows.specs.Rows.{Lent, Left, at, put, confirm, submitted}
 use Rattle.rows.proofs.Laws.{by-order, at-put, at-other}
 use Rattle.rows.proofs.Check.{Sound}
 use Rattle.rows.proofs.Draining.{lent-confirmed}
@@ -21,7 +21,6 @@ use Rattle.rows.proofs.Kept.{sound-submitted, sound-confirmed, sound-freed}
 use Rattle.rows.proofs.Submitted.{Outcome, outcome, ruled-submitted, lent-submitted}
 use Rattle.rows.proofs.Submitted.Outcome.{as-it-was, with-it}
 use Rattle.state.specs.World.{Rows}
-use Rattle.state.proofs.Places.{fewer}
 
 -- every confirmed record has a named status
 pub record Named (q : Queue) (row : List ℕ) : Type 0 where
@@ -116,7 +115,7 @@ unfolding refuse take
 named-after ts q e x row area u l z (as-it-was n d i) = rw (← i) z
 named-after ts q e x row area u l z (with-it v m a i) = rw (← i) (named-grown q row u l z _ (a .room))
 
-pub filed-submitted : (ts : ℕ) (q : Queue) (r : Rows) (e : Record) (x : List ℕ) → Filed ts q r → Filed ts (submitted ts q e x (r .row) (r .area) .answer .queue) (record { row = submitted ts q e x (r .row) (r .area) .row; area = submitted ts q e x (r .row) (r .area) .area })
+filed-submitted : (ts : ℕ) (q : Queue) (r : Rows) (e : Record) (x : List ℕ) → Filed ts q r → Filed ts (submitted ts q e x (r .row) (r .area) .answer .queue) (record { row = submitted ts q e x (r .row) (r .area) .row; area = submitted ts q e x (r .row) (r .area) .area })
 filed-submitted ts q r e x k =
     record {
       ruled = ruled-submitted ts q e x (r .row) (r .area) (k .ruled) (k .lent);
@@ -125,8 +124,5 @@ filed-submitted ts q r e x k =
       status = named-after ts q e x (r .row) (r .area) (k .ruled) (k .lent .places) (k .status) (outcome ts q e x (r .row) (r .area));
     }
 
-pub filed-drained : (ts n count : ℕ) (q : Queue) (r : Rows) → n ≡ q .unconfirmed → Filed ts q r → Filed ts (drain n count (left q (r .row) (r .area)) .answer) (record { row = drain n count (left q (r .row) (r .area)) .row; area = drain n count (left q (r .row) (r .area)) .area })
-unfolding drain confirm
-filed-drained ts zero count q r e k = k
-filed-drained ts (suc n) count q r e k =
-    filed-drained ts n 0 (confirmed q) _ (fewer n q e) (filed-confirmed ts q r k DS count [] (omega arith) named-DS (omega arith))
+pub filed-taken : (ts : ℕ) (q : Queue) (r : Rows) (e : Record) (x : List ℕ) (l : Left Taken) → l ≡ submitted ts q e x (r .row) (r .area) → Filed ts q r → Filed ts (l .answer .queue) (record { row = l .row; area = l .area })
+filed-taken ts q r e x l i k = rw i (filed-submitted ts q r e x k)

@@ -15,7 +15,8 @@ use Rattle.state.specs.World.{World, aRequest, aToken, aReply, Event, ac
 use Rattle.state.specs.Runs.{Call, run, Begun}
 use Rattle.state.specs.Counts.{Mark, unknown, next, bitsFor, due, answered, settled, destinationIn, controlIn, counts, Pending, none, sent, History, unheard, marksBy, alike, closes, goes, heeds, history, Turn, first, again, Rightly, bitsOf, bitsIn, following, unclosed, aims, unaimed, Succession}
 use Rattle.state.proofs.Cases.{by}
-use Rattle.state.proofs.Tally.{Any, any, Sent, Meets, Counts, counts-split, settled-lost, settled-replied, closes-own}
+use Rattle.state.proofs.Cases.{Any, any}
+use Rattle.state.proofs.Tally.{Sent, Meets, Counts, counts-split, settled-lost, settled-replied, closes-own}
 use Rattle.state.proofs.FrameCounts.{sends-rightly, counts-begun}
 
 -- ---- events in a row

@@ -1,13 +1,13 @@
 -- What is known of a frame that was read: a token's address, a request's sender, a reply's status and data; and that an
 -- answer leaves the memory in order. Assumes nothing.
-use Prim.Native.Nat.{ℕ, _+_, _≤_}
+use Prim.Native.Nat.{ℕ, _+_, _≤_, _<_}
 use mathlib.Core.Bool.{Bool, true, false}
 use mathlib.Core.Path.{_≡_, refl}
 use mathlib.Core.List.{List, []}
 use native.Mathlib.Omega.{arith}
 use lib.ListN.{length, length-append}
 use Rattle.choice.specs.Choice.{pick, less, same}
-use Rattle.choice.proofs.Rules.{passed, false-less}
+use Rattle.choice.proofs.Rules.{passed, unrefused, false-less, is-said}
 use Rattle.control.specs.declared.Code.{Code}
 use Rattle.control.specs.declared.Code.the-variants.{Ok, Ue, Rr, Rs, Dl, Nr, Dh, Rdl, Rdh}
 use Rattle.control.specs.declared.Control.{Control}
@@ -27,7 +27,7 @@ use Rattle.laws.proofs.Body.{writable}
 use Rattle.laws.proofs.Accepted.{accepted, accepted-carried}
 use Rattle.laws.proofs.Theorems.{read-writable}
 use Rattle.request.specs.declared.Record.{Record}
-use Rattle.request.specs.Record.{named}
+use Rattle.request.specs.Record.{NA, named}
 use Rattle.queue.specs.Queue.{AREA}
 use Rattle.state.specs.declared.Core.{Core}
 use Rattle.state.specs.declared.Memory.{Memory}
@@ -37,13 +37,29 @@ use Rattle.state.specs.declared.Given.the-variants.{Acknowledged, Coded}
 use Rattle.state.specs.declared.Asks.{Asks}
 use Rattle.state.specs.declared.Asks.the-variants.{Sda, Srd, Sdn, Status, Never}
 use Rattle.state.specs.declared.Verdict.{Verdict}
-use Rattle.state.specs.World.{Event}
+use Rattle.state.specs.declared.Verdict.the-variants.{Plausible, Vain, Foreign}
+use Rattle.state.specs.World.{World, Event}
 use Rattle.state.specs.Request.{judgedBy, judged}
 use Rattle.state.specs.Answering as A
 use Rattle.state.specs.Answering.{Answered, answered, replyHead, replyOctets, remembered, answerNew, answerCounted, answerAs, answerTo, answer}
+use Rattle.state.specs.Refusals.{cramped, refusalIn, refusal}
 use Rattle.state.proofs.Cases.{by}
-use Rattle.state.proofs.Poise.{statusBy, Lawful}
-use Rattle.state.proofs.Order.{Memorable}
+
+-- the answering memory: whose request was answered, and how long the reply is
+pub record Memorable (m : Memory) : Type 0 where
+  pub source : m .kept .source .0 ≤ 127
+  pub reply : m .kept .length ≤ 255
+
+-- what a plausible reply confirms a request with: a named status, and data that fit its place
+unfoldable pub statusBy : Verdict → ℕ
+statusBy (Plausible n) = n
+statusBy Vain = 0
+statusBy Foreign = 0
+
+pub record Lawful (x : List ℕ) (v : Verdict) : Type 0 where
+  pub status : named (statusBy v) ≡ true
+  pub low : statusBy v < NA
+  pub short : length x ≤ AREA
 
 -- ---- the fields of a frame that was read
 pub read-token : (s : List ℕ) (d a : Address) (p : Part) → read s ≡ Read (Token d a) p → a .0 ≤ 126
@@ -99,8 +115,34 @@ named-judged ts r (Token d s) n = named-code Ok
 named-judged ts r Short n = by (λ (m : ℕ). named m ≡ true) _ _ _ (λ e. named-code Ok) (λ e. named-code Nr)
 named-judged ts r (Frame h) n = named-judgedBy ts r h n (h .control)
 
+-- ---- the status of a plausible reply is its code, never NA
+low-code : (c : Code) → codeNumber c < NA
+low-code Ok = omega arith
+low-code Ue = omega arith
+low-code Rr = omega arith
+low-code Rs = omega arith
+low-code Dl = omega arith
+low-code Nr = omega arith
+low-code Dh = omega arith
+low-code Rdl = omega arith
+low-code Rdh = omega arith
+
+low-judgedBy : (ts : ℕ) (r : Record) (h : Head) (n : ℕ) (c : Control) → statusBy (judgedBy ts r h n c) < NA
+unfolding judgedBy statusBy
+low-judgedBy ts r h n (Request s b v) = low-code Ok
+low-judgedBy ts r h n (Reply k c) =
+    by (λ (v : Verdict). statusBy v < NA) _ _ _
+    (λ e. by (λ (v : Verdict). statusBy v < NA) _ _ _ (λ e. low-code c) (λ e. low-code Ok))
+    (λ e. low-code Ok)
+
+pub low-judged : (ts : ℕ) (r : Record) (f : Fields) (n : ℕ) → statusBy (judged ts r f n) < NA
+unfolding judged statusBy
+low-judged ts r (Token d s) n = low-code Ok
+low-judged ts r Short n = by (λ (m : ℕ). m < NA) _ _ _ (λ e. low-code Ok) (λ e. low-code Nr)
+low-judged ts r (Frame h) n = low-judgedBy ts r h n (h .control)
+
 pub lawful-judged : (s : List ℕ) (f : Fields) (p : Part) (ts : ℕ) (r : Record) → read s ≡ Read f p → Lawful (shown s p) (judged ts r f (p .count))
-lawful-judged s f p ts r e = record { status = named-judged ts r f (p .count); short = read-short s f p e }
+lawful-judged s f p ts r e = record { status = named-judged ts r f (p .count); low = low-judged ts r f (p .count); short = read-short s f p e }
 
 -- ---- how long a reply is
 length-extension : (a : Access) → length (extension a) ≤ 1
@@ -172,3 +214,15 @@ module _ (c : Core) (points : List ℕ) (m : Memory) (room : Bool) (high low : L
   pub minds-answer : Minds (answer c points m room high low h d)
   unfolding answer
   minds-answer = by Minds _ _ _ (λ e. minds-to _) (λ e. by Minds _ _ _ (λ e. minds-to _) (λ e. minds-answered m _ z))
+
+-- ---- an update that is not refused is at most 244 octets
+pub short-updates : (out high low : ℕ) (w : World) → refusal out high low w ≡ 0 → (high ≤ 244) × (low ≤ 244)
+unfolding refusal refusalIn cramped
+short-updates out high low w e =
+    let a = passed _ 21 _ (omega arith) e in
+    let b = passed _ 21 _ (omega arith) (a .1) in
+    let c = passed _ 22 _ (omega arith) (b .1) in
+    let d = unrefused _ _ (is-said (c .0)) in
+    let f = unrefused _ _ (d .1) in
+    let g = unrefused _ _ (f .1) in
+    (false-less _ _ (f .0), false-less _ _ (g .0))

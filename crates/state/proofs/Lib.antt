@@ -1,5 +1,11 @@
 pub mod Cases
+pub mod Phases
+pub mod Choices
+pub mod Acts
 pub mod Answers
+pub mod Hearing
+pub mod Walk
+pub mod Keeping
 pub mod Refused
 pub mod Places
 pub mod Fates
@@ -9,7 +15,6 @@ pub mod Steps
 pub mod Filed
 pub mod Poise
 pub mod Order
-pub mod Hearing
 pub mod Ordered
 pub mod Never
 pub mod Start
@@ -23,7 +28,6 @@ pub mod Agreed
 pub mod Tally
 pub mod FrameCounts
 pub mod Following
-pub mod Choices
 pub mod Waits
 pub mod Precedence
 pub mod Apart

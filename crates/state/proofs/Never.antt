@@ -6,14 +6,14 @@ use mathlib.Core.List.{List, [], _∷_, _++_}
 use native.Mathlib.Omega.{arith}
 use lib.ListN.{length}
 use Rattle.choice.specs.Choice.{pick, same, said}
-use Rattle.choice.proofs.Rules.{pick-true, pick-false, same-false, false-same, is-said}
+use Rattle.choice.proofs.Rules.{pick-true, pick-false, same-false, true-same, false-same, is-said}
 use Rattle.times.specs.declared.Settings.{Settings}
 use Rattle.request.specs.declared.Record.{Record}
 use Rattle.request.specs.Record.{unfit, named}
 use Rattle.queue.specs.declared.Queue.{Queue}
 use Rattle.queue.specs.declared.Taken.{Taken}
 use Rattle.queue.specs.declared.Collected.{Collected}
-use Rattle.queue.specs.declared.Collected.the-variants.{Refused as Uncollected}
+use Rattle.queue.specs.declared.Collected.the-variants.{Refused as Uncollected, Handed}
 use Rattle.queue.specs.Queue as Q
 use Rattle.queue.specs.Queue.{Ruled, taken, take}
 use Rattle.queue.proofs.Laws.{not-overfull}
@@ -27,7 +27,9 @@ use Rattle.state.specs.Calls.{called, refuse, submitting, collecting}
 use Rattle.state.specs.Runs.{Call, call, run}
 use Rattle.state.specs.Runs.Call.{submit, frame, sent, slot, reset, collect}
 use Rattle.state.proofs.Cases.{by}
-use Rattle.state.proofs.Refused.{refuses, Told, told-heard, told-sent, told-slot, told-accepted, told-collected, told-resetting}
+use Rattle.state.proofs.Refused.{refuses, Told, told-carried, told-resetting}
+use Rattle.state.proofs.Hearing.{short-updates}
+use Rattle.state.proofs.Walk.{carried-heard, carried-sent, carried-slot}
 use Rattle.state.proofs.Places.{place-first}
 use Rattle.state.proofs.Filed.{Filed}
 use Rattle.state.proofs.Order.{Orderly, not-lawless, never-29-in}
@@ -99,6 +101,14 @@ spared-refused : (n : ℕ) (s : Site) (w : World) → (n ≡ 29 → ⊥) → Spa
 unfolding called done
 spared-refused n s w h = record { spared = spared-one n h }
 
+spared-accepted : (p : Priority) (s : Site) (n : ℕ) (w : World) → Spared (called (done s (accepted p n ∷ [])) w)
+unfolding called done tells
+spared-accepted p s n w = record { spared = refl }
+
+spared-collected : (p : Priority) (n : ℕ) (r : Record) (q : Queue) (w : World) → Spared (called (collecting p (Handed n r q) (w .site)) w)
+unfolding called collecting done tells
+spared-collected p n r q w = record { spared = refl }
+
 -- ---- submit
 unfit-not : (ts : ℕ) (r : Record) (n : ℕ) → unfit ts r n ≡ 29 → ⊥
 unfolding unfit
@@ -129,7 +139,7 @@ submitted-not ts q r x row area u =
 spared-submitting : (y : Priority) (l : Left Taken) (w : World) → (l .answer .refused ≡ 29 → ⊥) → Spared (called (submitting y l (w .site)) w)
 unfolding submitting
 spared-submitting y l w h =
-    by (λ (d : Done). Spared (called d w)) _ _ _ (λ e. spared-told (told-accepted y _ _ w)) (λ e. spared-refused _ _ w h)
+    by (λ (d : Done). Spared (called d w)) _ _ _ (λ e. spared-accepted y _ _ w) (λ e. spared-refused _ _ w h)
 
 -- ---- collect
 spared-uncollected : (y : Priority) (n : ℕ) (w : World) → (n ≡ 29 → ⊥) → Spared (called (collecting y (Uncollected n) (w .site)) w)
@@ -145,7 +155,7 @@ spared-collecting y ts q r w k =
     by (λ (c : Collected). Spared (called (collecting y c (w .site)) w)) _ _ _ (λ e. spared-uncollected y 21 w (λ z. omega arith))
     (λ e. by (λ (c : Collected). Spared (called (collecting y c (w .site)) w)) _ _ _ (λ e. absurd (true≢false (sym (is-said e) ∙ not-overfull q (k .ruled))))
     (λ e. by (λ (c : Collected). Spared (called (collecting y c (w .site)) w)) _ _ _ (λ e. spared-uncollected y 28 w (λ z. omega arith))
-    (λ e. by (λ (c : Collected). Spared (called (collecting y c (w .site)) w)) _ _ _ (λ i. spared-told (told-collected y _ _ _ w))
+    (λ e. by (λ (c : Collected). Spared (called (collecting y c (w .site)) w)) _ _ _ (λ i. spared-collected y _ _ _ w)
     (λ i. absurd (true≢false (sym (first-named ts q r k (false-same _ _ e)) ∙ is-said i))))))
 
 -- ---- any call of a station in order
@@ -185,15 +195,16 @@ module _ (t : Settings) (ts : ℕ) (w : World) (o : Orderly t ts w) where
   spared-frame : (clock : ℕ) (room : Bool) (high low octets : List ℕ) (out : ℕ) → Spared (Calls.frame clock room high low octets out w)
   unfolding Calls.frame
   spared-frame clock room high low octets out =
-      by Spared _ _ _ (λ e. spared-told (told-heard _ clock room high low octets w)) (λ e. spared-refuse _ w (never-29-in t ts w o out _ _))
+      by Spared _ _ _ (λ e. let u = short-updates out (length high) (length low) w (true-same _ _ e) in spared-told (told-carried (carried-heard clock room high low octets (u .0) (u .1) _ w refl)))
+      (λ e. spared-refuse _ w (never-29-in t ts w o out _ _))
 
   spared-sent : (clock out : ℕ) → Spared (Calls.sent clock out w)
   unfolding Calls.sent
-  spared-sent clock out = by Spared _ _ _ (λ e. spared-told (told-sent _ clock w)) (λ e. spared-refuse _ w (never-29-in t ts w o out _ _))
+  spared-sent clock out = by Spared _ _ _ (λ e. spared-told (told-carried (carried-sent clock w))) (λ e. spared-refuse _ w (never-29-in t ts w o out _ _))
 
   spared-slot : (clock out : ℕ) → Spared (Calls.slot clock out w)
   unfolding Calls.slot
-  spared-slot clock out = by Spared _ _ _ (λ e. spared-told (told-slot _ clock w)) (λ e. spared-refuse _ w (never-29-in t ts w o out _ _))
+  spared-slot clock out = by Spared _ _ _ (λ e. spared-told (told-carried (carried-slot clock w))) (λ e. spared-refuse _ w (never-29-in t ts w o out _ _))
 
   spared-call : (c : Call) → Spared (call c w)
   unfolding call

@@ -4,33 +4,26 @@ use mathlib.Core.Bool.{Bool, true, false, true≢false}
 use mathlib.Core.Path.{_≡_, refl, sym, ap, _∙_}
 use mathlib.Core.List.{List}
 use native.Mathlib.Omega.{arith}
-use lib.ListN.{length}
 use Rattle.choice.specs.Choice.{same, said}
-use Rattle.choice.proofs.Rules.{pick-true, pick-false, less-false, same-true, same-false, false-less, passed, unrefused, is-said}
+use Rattle.choice.proofs.Rules.{pick-true, pick-false, less-false, same-true, same-false, is-said}
 use Rattle.times.specs.declared.Settings.{Settings}
 use Rattle.times.specs.Times.{unruly}
 use Rattle.ring.specs.Ring.{member}
 use Rattle.queue.specs.declared.Queue.{Queue}
 use Rattle.queue.specs.Queue.{Ruled}
 use Rattle.queue.proofs.Laws.{not-overfull}
-use Rattle.rows.specs.Rows.{at, sound}
+use Rattle.rows.specs.Rows.{at}
 use Rattle.rows.proofs.Check.{sound-is}
 use Rattle.state.specs.declared.Phase.{Phase}
-use Rattle.state.specs.declared.Phase.the-variants.{Idle, Awaited, Sdn, Check, ToSelf}
 use Rattle.state.specs.declared.Priority.{Priority}
 use Rattle.state.specs.declared.Priority.the-variants.{High, Low}
 use Rattle.state.specs.declared.Core.{Core}
-use Rattle.state.specs.declared.Memory.{Memory}
 use Rattle.state.specs.World.{World, queueOf}
-use Rattle.state.specs.Refusals.{unstartable, cramped, unstarted, misaddressed, overcounted, oddIn, lawless, soundIn, unlikeIn, inFlight, unsound, refusalIn, refusal}
+use Rattle.state.specs.Refusals.{unstartable, unstarted, misaddressed, overcounted, oddIn, lawless, soundIn, unlikeIn, inFlight, unsound, refusalIn, refusal}
 use Rattle.state.proofs.Cases.{by}
-use Rattle.state.proofs.Standing.{flight}
-use Rattle.state.proofs.Poise.{checking, selfing, queueBy, Apt, FirmAt, AptAt}
-
--- the answering memory: whose request was answered, and how long the reply is
-pub record Memorable (m : Memory) : Type 0 where
-  pub source : m .kept .source .0 ≤ 127
-  pub reply : m .kept .length ≤ 255
+use Rattle.state.proofs.Phases.{flight, odd-by, unlike-off}
+use Rattle.state.proofs.Hearing.{Memorable}
+use Rattle.state.proofs.Poise.{queueBy, Apt, FirmAt, AptAt}
 
 -- a station that was started with the settings t and TS
 pub record Orderly (t : Settings) (ts : ℕ) (w : World) : Type 0 where
@@ -70,20 +63,19 @@ loaded-some : (y : Priority) (c : Core) → 0 < queueBy y (c .high) (c .low) .un
 loaded-some y c h = same-false (λ e. omega (arith, ap (λ (q : Queue). q .unconfirmed) (queue-by y c)))
 
 even : {limit n : ℕ} (x : Phase) (c : Core) (masters u v : List ℕ) → Apt limit n (c .ts .0) masters (c .high) (c .low) u v x (c .doing .served) → oddIn x c masters ≡ false
-unfolding oddIn flight checking selfing
-even Idle c masters u v a = refl
-even Awaited c masters u v a = loaded-some _ c (a .flying refl .some)
-even Sdn c masters u v a = loaded-some _ c (a .flying refl .some)
-even Check c masters u v a = same-false (a .check refl)
-even ToSelf c masters u v a = pick-true _ _ (same-true (a .self refl))
+even x c masters u v a =
+    odd-by x c masters
+    ∙ by (λ (b : Bool). b ≡ false) _ _ _ (λ h. loaded-some _ c (a .flying h .some))
+    (λ h. by (λ (b : Bool). b ≡ false) _ _ _ (λ h. same-false (a .check h))
+    (λ h. by (λ (b : Bool). b ≡ false) _ _ _ (λ h. pick-true _ _ (same-true (a .self h))) (λ h. refl)))
 
 alike : {limit n : ℕ} (x : Phase) (c : Core) (masters u v : List ℕ) → Apt limit n (c .ts .0) masters (c .high) (c .low) u v x (c .doing .served) → unlikeIn x (inFlight c u v .service) ≡ false
-unfolding unlikeIn inFlight flight
-alike Idle c masters u v a = refl
-alike Awaited c masters u v a = rw (queue-by (c .doing .served) c) at (a .flying refl .fits)
-alike Sdn c masters u v a = rw (queue-by (c .doing .served) c) at (a .flying refl .fits)
-alike Check c masters u v a = refl
-alike ToSelf c masters u v a = refl
+unfolding inFlight
+alike x c masters u v a = by-flight (flight x) refl
+  where
+    by-flight : (b : Bool) → flight x ≡ b → unlikeIn x (inFlight c u v .service) ≡ false
+    by-flight true h = rw (queue-by (c .doing .served) c) at (a .flying h .fits)
+    by-flight false h = unlike-off x _ h
 
 module _ (t : Settings) (ts : ℕ) (w : World) (o : Orderly t ts w) where
   own-small : w .site .core .ts .0 ≤ 126
@@ -122,15 +114,3 @@ module _ (t : Settings) (ts : ℕ) (w : World) (o : Orderly t ts w) where
       (λ e. by (λ (n : ℕ). n ≡ 29 → ⊥) _ _ _ (λ e z. omega arith)
       (λ e. by (λ (n : ℕ). n ≡ 29 → ⊥) _ _ _ (λ e. absurd (true≢false (sym (is-said e) ∙ not-lawless)))
       (λ e. by (λ (n : ℕ). n ≡ 29 → ⊥) _ _ _ (λ e. absurd (true≢false (sym (is-said e) ∙ not-unsound))) (λ e z. omega arith)))))
-
--- ---- an update that is not refused is at most 244 octets
-pub short-updates : (out high low : ℕ) (w : World) → refusal out high low w ≡ 0 → (high ≤ 244) × (low ≤ 244)
-unfolding refusal refusalIn cramped
-short-updates out high low w e =
-    let a = passed _ 21 _ (omega arith) e in
-    let b = passed _ 21 _ (omega arith) (a .1) in
-    let c = passed _ 22 _ (omega arith) (b .1) in
-    let d = unrefused _ _ (is-said (c .0)) in
-    let f = unrefused _ _ (d .1) in
-    let g = unrefused _ _ (f .1) in
-    (false-less _ _ (f .0), false-less _ _ (g .0))

@@ -1,52 +1,42 @@
 -- The site in order: what is true of it whatever is being sent, and that the phase is not at odds with what is being
--- sent; each act keeps both. Assumes nothing.
-use Prim.Native.Nat.{ℕ, _+_, _≤_, _<_}
+-- sent; each move and each act keeps both. Assumes nothing.
+use Prim.Native.Nat.{ℕ, _+_, _-_, _*_, _≤_, _<_}
 use mathlib.Core.Bool.{Bool, true, false, true≢false}
-use mathlib.Core.Path.{_≡_, refl, sym, _∙_}
+use mathlib.Core.Path.{_≡_, refl, sym, ap, _∙_}
 use mathlib.Core.List.{List, []}
 use native.Mathlib.Omega.{arith}
 use lib.ListN.{length}
-use Rattle.choice.proofs.Rules.{pick-true, true-less, false-less, true-same, false-same}
+use Rattle.choice.proofs.Rules.{pick-true, true-same, false-same}
 use Rattle.times.specs.declared.Settings.{Settings}
 use Rattle.ring.specs.Ring.{member, nextOf, previousOf}
 use Rattle.ring.proofs.Laws.{member-enter-other, member-remove-other, previous-is}
-use Rattle.request.specs.Record.{named}
+use Rattle.request.specs.declared.Record.{Record}
+use Rattle.request.specs.Record.{SIZE, DS, named}
 use Rattle.queue.specs.declared.Queue.{Queue}
-use Rattle.queue.specs.Queue.{AREA, current}
-use Rattle.queue.specs.Queue as Q
-use Rattle.rows.specs.Rows.{at, confirm}
+use Rattle.queue.specs.Queue.{AREA, Ruled, place, current, grown, freed, take}
+use Rattle.queue.proofs.Laws.{Accepted, place-below, place-apart, place-grown, place-freed}
+use Rattle.rows.specs.Rows.{at, put, confirm, submitted}
+use Rattle.rows.proofs.Laws.{at-other}
 use Rattle.state.specs.declared.Phase.{Phase}
 use Rattle.state.specs.declared.Phase.the-variants.{Idle, Awaited, Sdn, Check, ToSelf}
 use Rattle.state.specs.declared.Priority.{Priority}
 use Rattle.state.specs.declared.Priority.the-variants.{High, Low}
 use Rattle.state.specs.declared.Doing.{Doing}
 use Rattle.state.specs.declared.Core.{Core}
+use Rattle.state.specs.declared.Choice.the-variants.{Serve}
 use Rattle.state.specs.declared.Outcome.{Outcome}
-use Rattle.state.specs.declared.Outcome.the-variants.{Replied, Lost, Gone}
-use Rattle.state.specs.declared.Verdict.{Verdict}
-use Rattle.state.specs.declared.Verdict.the-variants.{Plausible, Vain, Foreign}
-use Rattle.state.specs.World.{Rows, Site, Done, still, done, andThen, withDoing, withHold, withStranger, withPs, withQueue, queueOf, withCore, withMasters, withMarks, rowsOf, withRows}
-use Rattle.state.specs.Request.{recordIn, sending, sendCore, send, once, againOf, again, statusOf, closeOf, close}
-use Rattle.state.specs.Pass.{ns, passing, passCore, pass, passAgain, psWithout, without, recheck}
-use Rattle.state.specs.Hold.{choice, finish, chosen, choose, resting, rest, beginning, begin, admit, token, ended, retry, over, givenUp, concluded}
+use Rattle.state.specs.World.{Rows, Site, Event, done, withDoing, withHold, withStranger, withPs, withQueue, queueOf, withCore, withMasters, withMarks, rowsOf, withRows}
+use Rattle.state.specs.Request.{recordIn, sending, sendCore, once, statusOf, closeOf}
+use Rattle.state.specs.Pass.{ns, passing as passingOn, passCore, psWithout, without}
+use Rattle.state.specs.Hold.{choice, resting, rest, beginning, admit}
 use Rattle.state.specs.Refusals.{unlikeIn, rowBy}
-use Rattle.state.proofs.Cases.{by}
-use Rattle.state.proofs.Standing.{flight}
-use Rattle.state.proofs.Filed.{Filed, filed-confirmed, named-OK, named-NA}
-
-unfoldable pub checking : Phase → Bool
-checking Idle = false
-checking Awaited = false
-checking Sdn = false
-checking Check = true
-checking ToSelf = false
-
-unfoldable pub selfing : Phase → Bool
-selfing Idle = false
-selfing Awaited = false
-selfing Sdn = false
-selfing Check = false
-selfing ToSelf = true
+use Rattle.state.specs.Calls.{freshCore}
+use Rattle.state.proofs.Cases.{by, Any, any}
+use Rattle.state.proofs.Phases.{flight, checking, selfing}
+use Rattle.state.proofs.Choices.{saw-high, saw-low}
+use Rattle.state.proofs.Acts.{Point, calm, free, choosing, passing, halting, clearing, Closing, replied, lost, gone, Move, lets-go, rests, notes, admits, drops, spares, renews, Act, opens, serves, stops, quits, passes, repasses, repeats, closes, takes, hands, replies, shows, restarts, breaks, clears-high, clears-low, sent, sentAgain, taking, grownBy, freedOf}
+use Rattle.state.proofs.Keeping.{Ground}
+use Rattle.state.proofs.Filed.{Filed, filed-confirmed, filed-taken, filed-freed, named-OK, named-NA, named-DS}
 
 unfoldable pub queueBy : Priority → Queue → Queue → Queue
 queueBy High h l = h
@@ -80,14 +70,6 @@ FirmAt t ts s = Firm t ts (s .core .settings) (s .core .ts .0) (s .core .ps .0) 
 abbrev pub AptAt : Site → Type 0
 AptAt s = Apt (s .core .settings .retries .0) (s .core .doing .sendings) (s .core .ts .0) (s .masters) (s .core .high) (s .core .low) (s .high .row) (s .low .row) (s .core .doing .phase) (s .core .doing .served)
 
--- what an act leaves is in order; in all, or but for the phase
-pub record Good (t : Settings) (ts : ℕ) (d : Done) : Type 0 where
-  pub firm : FirmAt t ts (d .site)
-  pub apt : AptAt (d .site)
-
-pub record Firmly (t : Settings) (ts : ℕ) (d : Done) : Type 0 where
-  pub firm : FirmAt t ts (d .site)
-
 -- ---- phases
 module _ (limit own : ℕ) (masters : List ℕ) (h l : Queue) (u v : List ℕ) where
   unflown : (n : ℕ) (x : Phase) (y : Priority) → flight x ≡ false → (checking x ≡ true → nextOf masters own ≡ own → ⊥) → (selfing x ≡ true → nextOf masters own ≡ own) → Apt limit n own masters h l u v x y
@@ -115,246 +97,188 @@ module _ (limit own : ℕ) (masters : List ℕ) (h l : Queue) (u v : List ℕ) w
       (λ i. apt-loaded Sdn y refl refl (record { some = z; fits = pick-true _ _ (rw e at i) }))
       (λ i. apt-loaded Awaited y refl refl (record { some = z; fits = rw e at i }))
 
-  apt-passing : (c : Core) → c .ts .0 ≡ own → Apt limit (passing (nextOf masters own) c .sendings) own masters h l u v (passing (nextOf masters own) c .phase) (passing (nextOf masters own) c .served)
-  unfolding passing flight checking selfing
+  apt-passing : (c : Core) → c .ts .0 ≡ own → Apt limit (passingOn (nextOf masters own) c .sendings) own masters h l u v (passingOn (nextOf masters own) c .phase) (passingOn (nextOf masters own) c .served)
+  unfolding passingOn flight checking selfing
   apt-passing c e =
       by (λ (g : Doing). Apt limit (g .sendings) own masters h l u v (g .phase) (g .served)) _ _ _
       (λ i. unflown 1 ToSelf _ refl (λ z. absurd (true≢false (sym z))) (λ z. true-same _ _ i ∙ e))
       (λ i. unflown 1 Check _ refl (λ z f. false-same _ _ i (f ∙ sym e)) (λ z. absurd (true≢false (sym z))))
 
-check-unflown : (x : Phase) → checking x ≡ true → flight x ≡ false
-unfolding checking flight
-check-unflown Idle e = refl
-check-unflown Awaited e = absurd (true≢false (sym e))
-check-unflown Sdn e = absurd (true≢false (sym e))
-check-unflown Check e = refl
-check-unflown ToSelf e = refl
+-- ---- what is being sent stays as it is while its queue is changed behind or before it
+apart-from : (q : Queue) → 0 < q .unconfirmed → q .confirmed + q .unconfirmed ≡ q .confirmed → ⊥
+apart-from q s e = omega arith
 
--- what a plausible reply confirms a request with: a named status, and data that fit its place
-unfoldable pub statusBy : Verdict → ℕ
-statusBy (Plausible n) = n
-statusBy Vain = 0
-statusBy Foreign = 0
+loaded-grown : (x : Phase) (q : Queue) (row : List ℕ) (r : Record) → Ruled q → length row ≡ SIZE * q .places → q .confirmed + q .unconfirmed < q .places → Loaded x q row → Loaded x (grown q) (put row (place q (q .confirmed + q .unconfirmed)) r)
+unfolding grown current
+loaded-grown x q row r u l h z =
+    let b = place-below q (q .confirmed + q .unconfirmed) u (u .used) in
+    record {
+      some = omega arith;
+      fits = rw (place-grown q (q .confirmed), at-other row (place q (q .confirmed + q .unconfirmed)) (place q (q .confirmed)) r (omega arith) (λ e. apart-from q (z .some) (place-apart q _ _ h (omega (arith, u .used, z .some)) e))) (z .fits);
+    }
 
-pub record Lawful (x : List ℕ) (v : Verdict) : Type 0 where
-  pub status : named (statusBy v) ≡ true
-  pub short : length x ≤ AREA
+loaded-freed : (x : Phase) (q : Queue) (row : List ℕ) → Ruled q → 0 < q .confirmed → Loaded x q row → Loaded x (freed q) row
+unfolding current freed
+loaded-freed x q row u h z =
+    let e : q .confirmed - 1 + 1 ≡ q .confirmed = omega arith in
+    record { some = z .some; fits = rw (place-freed q (q .confirmed - 1) u (omega (arith, u .used)), e) (z .fits) }
+
+module _ {limit n own : ℕ} {masters : List ℕ} {h l h′ : Queue} {u v u′ : List ℕ} {x : Phase} where
+  apt-high : (y : Priority) → (Loaded x h u → Loaded x h′ u′) → Apt limit n own masters h l u v x y → Apt limit n own masters h′ l u′ v x y
+  unfolding queueBy rowBy
+  apt-high High f a = record { flying = λ e. f (a .flying e); counted = a .counted; check = a .check; self = a .self }
+  apt-high Low f a = record { flying = a .flying; counted = a .counted; check = a .check; self = a .self }
+
+  apt-low : (y : Priority) → (Loaded x h u → Loaded x h′ u′) → Apt limit n own masters l h v u x y → Apt limit n own masters l h′ v u′ x y
+  unfolding queueBy rowBy
+  apt-low High f a = record { flying = a .flying; counted = a .counted; check = a .check; self = a .self }
+  apt-low Low f a = record { flying = λ e. f (a .flying e); counted = a .counted; check = a .check; self = a .self }
+
+-- ---- what is known at each point of a call: all of it between calls, and all but the phase within one
+unfoldable pub AptIn : Point → Site → Type 0
+AptIn calm s = AptAt s
+AptIn free s = Any
+AptIn (choosing b) s = Any
+AptIn passing s = Any
+AptIn halting s = Any
+AptIn (clearing a b) s = Any
+
+pub record Poised (t : Settings) (ts : ℕ) (p : Point) (s : Site) : Type 0 where
+  pub firm : FirmAt t ts s
+  pub apt : AptIn p s
+
+pub poised-apt : {t : Settings} {ts : ℕ} {s : Site} → Poised t ts calm s → AptAt s
+unfolding AptIn
+poised-apt g = g .apt
+
+closing-named : {p : Phase} {o : Outcome} {x : List ℕ} → Closing p o x → named (statusOf o) ≡ true
+unfolding statusOf
+closing-named (replied n x a b c) = a
+closing-named lost = named-NA
+closing-named gone = named-OK
+
+closing-short : {p : Phase} {o : Outcome} {x : List ℕ} → Closing p o x → length x ≤ AREA
+closing-short (replied n x a b c) = c
+closing-short lost = omega arith
+closing-short gone = omega arith
+
+pub closing-flight : {p : Phase} {o : Outcome} {x : List ℕ} → Closing p o x → flight p ≡ true
+unfolding flight
+closing-flight (replied n x a b c) = refl
+closing-flight lost = refl
+closing-flight gone = refl
+
+-- the queue being served has a request
+pub served-some : (y : Priority) (s : Site) → s .core .doing .served ≡ y → flight (s .core .doing .phase) ≡ true → AptAt s → 0 < queueBy y (s .core .high) (s .core .low) .unconfirmed
+served-some y s e h a = rw e at (a .flying h .some)
+
+pub previous-small : (l : List ℕ) (own ts : ℕ) → ts ≤ 126 → own ≡ ts → previousOf l own ≤ 126
+previous-small l own ts small e = omega (arith, small, previous-is l own (omega (arith, small)))
 
 module _ (t : Settings) (ts : ℕ) (small : ts ≤ 126) where
-  pub good-still : (s : Site) → FirmAt t ts s → AptAt s → Good t ts (still s)
-  unfolding still
-  good-still s f a = record { firm = f; apt = a }
+  -- ---- the parts of a site that change
+  refirm : {set : Settings} {own ps stranger : ℕ} {masters : List ℕ} {h l h′ l′ : Queue} {u v u′ v′ : Rows} → Firm t ts set own ps stranger masters h l u v → Filed own h′ u′ → Filed own l′ v′ → Firm t ts set own ps stranger masters h′ l′ u′ v′
+  refirm f a b =
+      record { settings = f .settings; station = f .station; previous = f .previous; first = f .first; among = f .among; high = a; low = b }
 
-  good-then : (d : Done) (g : Site → Done) → Good t ts (g (d .site)) → Good t ts (andThen d g)
-  unfolding andThen
-  good-then d g z = record { firm = z .firm; apt = z .apt }
-
-  -- ---- send and again
-  good-send : (y : Priority) (s : Site) → FirmAt t ts s → 0 < queueOf y (s .core) .unconfirmed → Good t ts (send y s)
-  unfolding send sendCore done withCore withDoing queueOf rowsOf recordIn queueBy rowBy
-  good-send High s f z = record { firm = f; apt = apt-sending _ _ _ _ _ _ _ High _ z refl }
-  good-send Low s f z = record { firm = f; apt = apt-sending _ _ _ _ _ _ _ Low _ z refl }
-
-  good-again : (s : Site) → s .core .doing .sendings ≤ s .core .settings .retries .0 → FirmAt t ts s → AptAt s → Good t ts (again s)
-  unfolding again againOf done once withCore withDoing
-  good-again s h f a =
-      record {
-        firm = f;
-        apt = record { flying = a .flying; counted = λ e. (omega arith, omega arith); check = a .check; self = a .self };
-      }
-
-  -- ---- pass
-  good-pass : (s : Site) → FirmAt t ts s → Good t ts (pass s)
-  unfolding pass passCore ns done withCore withDoing
-  good-pass s f = record { firm = f; apt = apt-passing _ _ _ _ _ _ _ (s .core) refl }
-
-  good-finish : (s : Site) → FirmAt t ts s → Good t ts (finish s)
-  unfolding finish done
-  good-finish s f = good-then _ pass (good-pass s f)
-
-  good-over : (s : Site) → FirmAt t ts s → Good t ts (over s)
-  unfolding over done rest withCore withDoing resting
-  good-over s f = record { firm = f; apt = apt-idle _ _ _ _ _ _ _ _ _ }
-
-  good-choose : (starts : Bool) (clock : ℕ) (s : Site) → FirmAt t ts s → Good t ts (choose starts clock s)
-  unfolding choose choice chosen queueOf
-  good-choose starts clock s f =
-      by (λ x. Good t ts (chosen x s)) _ _ _
-      (λ e. by (λ x. Good t ts (chosen x s)) _ _ _ (λ z. good-send High s f (true-less _ _ e))
-      (λ z. by (λ x. Good t ts (chosen x s)) _ _ _ (λ z. good-send High s f (true-less _ _ e)) (λ z. good-finish s f)))
-      (λ e. by (λ x. Good t ts (chosen x s)) _ _ _
-      (λ z. by (λ x. Good t ts (chosen x s)) _ _ _ (λ z. good-send Low s f (true-less _ _ z)) (λ z. good-finish s f))
-      (λ z. good-finish s f))
-
-  -- ---- a hold begins
-  pub begun : (clock : ℕ) (s : Site) → FirmAt t ts s → FirmAt t ts (withCore (beginning clock (s .core)) s)
-  unfolding beginning withCore withStranger withHold withDoing
-  begun clock s f =
-      record {
-        settings = f .settings;
-        station = f .station;
-        previous = f .previous;
-        first = omega arith;
-        among = f .among;
-        high = f .high;
-        low = f .low;
-      }
-
-  pub good-begin : (clock : ℕ) (s : Site) → FirmAt t ts s → Good t ts (begin clock s)
-  unfolding begin done
-  good-begin clock s f = good-then _ (choose true clock) (good-choose true clock _ (begun clock s f))
-
-  pub admitted : (a : ℕ) (s : Site) → a ≤ 126 → (a ≡ s .core .ts .0 → ⊥) → FirmAt t ts s → FirmAt t ts (admit a s)
-  unfolding admit withCore withMasters withPs
-  admitted a s h n f =
-      record {
-        settings = f .settings;
-        station = f .station;
-        previous = h;
-        first = f .first;
-        among = member-enter-other _ a _ (λ e. n (sym e)) ∙ f .among;
-        high = f .high;
-        low = f .low;
-      }
-
-  noticed : (a : ℕ) (s : Site) → a ≤ 126 → FirmAt t ts s → FirmAt t ts (withCore (withStranger (record { 0 = a }) (s .core)) s)
-  unfolding withCore withStranger
-  noticed a s h f =
-      record {
-        settings = f .settings;
-        station = f .station;
-        previous = f .previous;
-        first = omega arith;
-        among = f .among;
-        high = f .high;
-        low = f .low;
-      }
-
-  noticed-apt : (a : ℕ) (s : Site) → AptAt s → AptAt (withCore (withStranger (record { 0 = a }) (s .core)) s)
-  unfolding withCore withStranger
-  noticed-apt a s z = z
-
-  pub good-token : (clock d a : ℕ) (s : Site) → a ≤ 126 → FirmAt t ts s → AptAt s → Good t ts (token clock d a s)
-  unfolding token
-  good-token clock d a s h f z =
-      by (Good t ts) _ _ _
-      (λ e. by (Good t ts) _ _ _ (λ e. good-still s f z)
-      (λ n. by (Good t ts) _ _ _ (λ e. good-begin clock s f)
-      (λ e. by (Good t ts) _ _ _ (λ e. good-begin clock _ (admitted a s h (false-same _ _ n) f))
-      (λ e. good-still _ (noticed a s h f) (noticed-apt a s z)))))
-      (λ e. good-still s f z)
-
-  -- ---- slot expiry while the pass is checked
-  good-passAgain : (s : Site) → checking (s .core .doing .phase) ≡ true → FirmAt t ts s → AptAt s → Good t ts (passAgain s)
-  unfolding passAgain done once withCore withDoing
-  good-passAgain s h f a =
-      record { firm = f; apt = unflown _ _ _ _ _ _ _ _ _ _ (check-unflown _ h) (a .check) (a .self) }
-
-  pub previous-small : (l : List ℕ) (own : ℕ) → own ≡ ts → previousOf l own ≤ 126
-  previous-small l own e = omega (arith, small, previous-is l own (omega (arith, small)))
+  readdress : {set : Settings} {own ps stranger ps′ stranger′ : ℕ} {masters masters′ : List ℕ} {h l : Queue} {u v : Rows} → Firm t ts set own ps stranger masters h l u v → ps′ ≤ 126 → stranger′ ≤ 127 → member masters′ own ≡ true → Firm t ts set own ps′ stranger′ masters′ h l u v
+  readdress f a b c =
+      record { settings = f .settings; station = f .station; previous = a; first = b; among = c; high = f .high; low = f .low }
 
   ps-small : (n : ℕ) (l : List ℕ) (c : Core) → c .ts .0 ≡ ts → c .ps .0 ≤ 126 → psWithout n l c ≤ 126
   unfolding psWithout
-  ps-small n l c e h = by (λ (m : ℕ). m ≤ 126) _ _ _ (λ i. previous-small l _ e) (λ i. h)
+  ps-small n l c e h = by (λ (m : ℕ). m ≤ 126) _ _ _ (λ i. previous-small l _ ts small e) (λ i. h)
 
-  firm-without : (s : Site) → (ns s ≡ s .core .ts .0 → ⊥) → FirmAt t ts s → FirmAt t ts (without s)
-  unfolding without withCore withMasters withPs
-  firm-without s n f =
+  other-next : (s : Site) → s .core .doing .phase ≡ Check → AptAt s → ns s ≡ s .core .ts .0 → ⊥
+  unfolding ns checking
+  other-next s e a = a .check (ap checking e)
+
+  close-firm : (y : Priority) (o : Outcome) (x : List ℕ) (s : Site) → 0 < queueBy y (s .core .high) (s .core .low) .unconfirmed → named (statusOf o) ≡ true → length x ≤ AREA → FirmAt t ts s → FirmAt t ts (closeOf y o x s .site)
+  unfolding closeOf done withRows withMarks withCore withQueue queueOf rowsOf confirm queueBy
+  close-firm High o x s h n l f = refirm f (filed-confirmed _ _ (s .high) (f .high) _ _ x h n l) (f .low)
+  close-firm Low o x s h n l f = refirm f (f .high) (filed-confirmed _ _ (s .low) (f .low) _ _ x h n l)
+
+  -- ---- moves
+  pub poised-moved : {p q : Point} {s s′ : Site} → Move Any p s q s′ → Poised t ts p s → Poised t ts q s′
+  unfolding AptIn rest admit without withCore withMasters withDoing withStranger withPs resting freshCore
+  poised-moved (lets-go s h) g = record { firm = g .firm; apt = any }
+  poised-moved (rests s) g = record { firm = g .firm; apt = apt-idle _ _ _ _ _ _ _ _ _ }
+  poised-moved (notes a s h i j k) g =
+      record { firm = readdress (g .firm) (g .firm .previous) (let l = h any in omega arith) (g .firm .among); apt = g .apt }
+  poised-moved (admits a s h i j) g =
+      record { firm = readdress (g .firm) (h any) (g .firm .first) (member-enter-other _ a _ (λ e. i (sym e)) ∙ g .firm .among); apt = any }
+  poised-moved (drops s e h) g =
       record {
-        settings = f .settings;
-        station = f .station;
-        previous = ps-small _ _ (s .core) (f .station) (f .previous);
-        first = f .first;
-        among = member-remove-other _ _ _ (λ e. n (sym e)) ∙ f .among;
-        high = f .high;
-        low = f .low;
+        firm = readdress (g .firm) (ps-small _ _ (s .core) (g .firm .station) (g .firm .previous)) (g .firm .first) (member-remove-other _ _ _ (λ i. other-next s (e any) (g .apt) (sym i)) ∙ g .firm .among);
+        apt = any;
+      }
+  poised-moved (spares s h) g = record { firm = g .firm; apt = any }
+  poised-moved (renews a b masters s h i j) g =
+      record {
+        firm = readdress (g .firm) (previous-small masters _ ts small (g .firm .station)) (omega arith) (h any);
+        apt = apt-idle _ _ _ _ _ _ _ _ _;
       }
 
-  other-next : (s : Site) → checking (s .core .doing .phase) ≡ true → AptAt s → ns s ≡ s .core .ts .0 → ⊥
-  unfolding ns
-  other-next s h a = a .check h
+  -- ---- acts
+  apt-again : (s : Site) → AptAt s → s .core .doing .sendings + 1 ≤ s .core .settings .retries .0 + 1 → AptAt (sentAgain s)
+  unfolding once withCore withDoing
+  apt-again s a h =
+      record { flying = a .flying; counted = λ e. (omega arith, h); check = a .check; self = a .self }
 
-  pub good-recheck : (s : Site) → checking (s .core .doing .phase) ≡ true → FirmAt t ts s → AptAt s → Good t ts (recheck s)
-  unfolding recheck
-  good-recheck s h f a =
-      by (Good t ts) _ _ _ (λ e. good-passAgain s h f a) (λ e. good-pass _ (firm-without s (other-next s h a) f))
+  poised-serves : (starts : Bool) (clock : ℕ) (y : Priority) (s : Site) → choice starts (s .core) clock ≡ Serve y → FirmAt t ts s → Poised t ts calm (sent y s)
+  unfolding AptIn sendCore withCore withDoing queueOf rowsOf recordIn queueBy rowBy
+  poised-serves starts clock High s e f = record { firm = f; apt = apt-sending _ _ _ _ _ _ _ High _ (saw-high starts _ clock e) refl }
+  poised-serves starts clock Low s e f = record { firm = f; apt = apt-sending _ _ _ _ _ _ _ Low _ (saw-low starts _ clock e .0) refl }
 
-  -- ---- a confirmation
-  close-high : (o : Outcome) (x : List ℕ) (s : Site) → 0 < s .core .high .unconfirmed → named (statusOf o) ≡ true → length x ≤ AREA → FirmAt t ts s → Firmly t ts (closeOf High o x s)
-  unfolding closeOf done withRows withMarks withCore withQueue queueOf rowsOf confirm
-  close-high o x s h n l f =
+  poised-takes : (y : Priority) (r : Record) (x : List ℕ) (s : Site) → Accepted (s .core .ts .0) (queueOf y (s .core)) r (length x) → taking y r x s ≡ submitted (s .core .ts .0) (queueOf y (s .core)) r x (rowsOf y s .row) (rowsOf y s .area) → FirmAt t ts s → AptAt s → Poised t ts calm (grownBy y r x s)
+  unfolding AptIn withRows withCore withQueue queueOf rowsOf take
+  poised-takes High r x s h e f a =
       record {
-        firm =
-            record {
-              settings = f .settings;
-              station = f .station;
-              previous = f .previous;
-              first = f .first;
-              among = f .among;
-              high = filed-confirmed (s .core .ts .0) (s .core .high) (s .high) (f .high) (statusOf o) (s .core .doing .sendings) x h n l;
-              low = f .low;
-            };
+        firm = refirm f (filed-taken _ _ (s .high) r x (taking High r x s) e (f .high)) (f .low);
+        apt = apt-high _ (loaded-grown _ (s .core .high) (s .high .row) _ (f .high .ruled) (f .high .lent .places) (h .room)) a;
+      }
+  poised-takes Low r x s h e f a =
+      record {
+        firm = refirm f (f .high) (filed-taken _ _ (s .low) r x (taking Low r x s) e (f .low));
+        apt = apt-low _ (loaded-grown _ (s .core .low) (s .low .row) _ (f .low .ruled) (f .low .lent .places) (h .room)) a;
       }
 
-  close-low : (o : Outcome) (x : List ℕ) (s : Site) → 0 < s .core .low .unconfirmed → named (statusOf o) ≡ true → length x ≤ AREA → FirmAt t ts s → Firmly t ts (closeOf Low o x s)
-  unfolding closeOf done withRows withMarks withCore withQueue queueOf rowsOf confirm
-  close-low o x s h n l f =
+  poised-hands : (y : Priority) (s : Site) → 0 < queueOf y (s .core) .confirmed → FirmAt t ts s → AptAt s → Poised t ts calm (freedOf y s)
+  unfolding AptIn withCore withQueue queueOf
+  poised-hands High s h f a =
       record {
-        firm =
-            record {
-              settings = f .settings;
-              station = f .station;
-              previous = f .previous;
-              first = f .first;
-              among = f .among;
-              high = f .high;
-              low = filed-confirmed (s .core .ts .0) (s .core .low) (s .low) (f .low) (statusOf o) (s .core .doing .sendings) x h n l;
-            };
+        firm = refirm f (filed-freed _ _ (s .high) (f .high) h) (f .low);
+        apt = apt-high _ (loaded-freed _ (s .core .high) (s .high .row) (f .high .ruled) h) a;
+      }
+  poised-hands Low s h f a =
+      record {
+        firm = refirm f (f .high) (filed-freed _ _ (s .low) (f .low) h);
+        apt = apt-low _ (loaded-freed _ (s .core .low) (s .low .row) (f .low .ruled) h) a;
       }
 
-  close-by : (y : Priority) (o : Outcome) (x : List ℕ) (s : Site) → 0 < queueBy y (s .core .high) (s .core .low) .unconfirmed → named (statusOf o) ≡ true → length x ≤ AREA → FirmAt t ts s → Firmly t ts (closeOf y o x s)
-  unfolding queueBy
-  close-by High o x s h n l f = close-high o x s h n l f
-  close-by Low o x s h n l f = close-low o x s h n l f
+  pub poised-acted : {p q : Point} {s s′ : Site} {e : Event} → Act Any p s e q s′ → Poised t ts p s → Poised t ts q s′
+  unfolding AptIn passCore ns beginning withCore withRows withQueue queueOf rowsOf confirm withDoing withHold withStranger once flight
+  poised-acted (opens clock s) g =
+      record { firm = readdress (g .firm) (g .firm .previous) (omega arith) (g .firm .among); apt = any }
+  poised-acted (serves starts clock y s e) g = poised-serves starts clock y s e (g .firm)
+  poised-acted (stops starts clock s e) g = record { firm = g .firm; apt = any }
+  poised-acted (quits s) g = record { firm = g .firm; apt = any }
+  poised-acted (passes s) g = record { firm = g .firm; apt = apt-passing _ _ _ _ _ _ _ (s .core) refl }
+  poised-acted (repasses s e h) g =
+      record { firm = g .firm; apt = unflown _ _ _ _ _ _ _ _ _ _ (ap flight (e any)) (g .apt .check) (g .apt .self) }
+  poised-acted (repeats y s i e h) g = record { firm = g .firm; apt = apt-again s (g .apt) (omega arith) }
+  poised-acted (closes y p o x s i e c) g =
+      record { firm = close-firm y o x s (served-some y s i (ap flight (e any) ∙ closing-flight (c any)) (g .apt)) (closing-named (c any)) (closing-short (c any)) (g .firm); apt = any }
+  poised-acted (takes y r x s h e) g = poised-takes y r x s h e (g .firm) (g .apt)
+  poised-acted (hands y s h) g = poised-hands y s h (g .firm) (g .apt)
+  poised-acted (replies o s) g = g
+  poised-acted (shows z h d s) g = g
+  poised-acted (restarts s) g = record { firm = g .firm; apt = any }
+  poised-acted (breaks s h) g = record { firm = g .firm; apt = any }
+  poised-acted (clears-high a b s h) g =
+      record { firm = refirm (g .firm) (filed-confirmed _ _ (s .high) (g .firm .high) DS a [] h named-DS (omega arith)) (g .firm .low); apt = any }
+  poised-acted (clears-low a b s h) g =
+      record { firm = refirm (g .firm) (g .firm .high) (filed-confirmed _ _ (s .low) (g .firm .low) DS b [] h named-DS (omega arith)); apt = any }
 
-  pub closes : (o : Outcome) (x : List ℕ) (s : Site) → flight (s .core .doing .phase) ≡ true → named (statusOf o) ≡ true → length x ≤ AREA → FirmAt t ts s → AptAt s → Firmly t ts (close o x s)
-  unfolding close
-  closes o x s h n l f a = close-by _ o x s (a .flying h .some) n l f
-
-  -- ---- the end of a request
-  pub good-ended : (o : Outcome) (x : List ℕ) (clock : ℕ) (s : Site) → flight (s .core .doing .phase) ≡ true → named (statusOf o) ≡ true → length x ≤ AREA → FirmAt t ts s → AptAt s → Good t ts (ended o x clock s)
-  unfolding ended
-  good-ended o x clock s h n l f a =
-      good-then _ (choose false clock) (good-choose false clock _ (closes o x s h n l f a .firm))
-
-  pub named-lost : named (statusOf Lost) ≡ true
-  unfolding statusOf
-  named-lost = named-NA
-
-  pub named-gone : named (statusOf Gone) ≡ true
-  unfolding statusOf
-  named-gone = named-OK
-
-  pub named-replied : (n : ℕ) → named n ≡ true → named (statusOf (Replied n)) ≡ true
-  unfolding statusOf
-  named-replied n e = e
-
-  good-givenUp : (s : Site) → flight (s .core .doing .phase) ≡ true → FirmAt t ts s → AptAt s → Good t ts (givenUp s)
-  unfolding givenUp
-  good-givenUp s h f a = good-then _ over (good-over _ (closes Lost [] s h named-lost (omega arith) f a .firm))
-
-  pub good-retry : (clock : ℕ) (s : Site) → flight (s .core .doing .phase) ≡ true → FirmAt t ts s → AptAt s → Good t ts (retry clock s)
-  unfolding retry
-  good-retry clock s h f a =
-      by (Good t ts) _ _ _ (λ e. good-ended Lost [] clock s h named-lost (omega arith) f a) (λ e. good-again s (false-less _ _ e) f a)
-
-  -- a plausible reply's status and data
-  pub good-concluded : (clock : ℕ) (x : List ℕ) (v : Verdict) (s : Site) → flight (s .core .doing .phase) ≡ true → Lawful x v → FirmAt t ts s → AptAt s → Good t ts (concluded clock x v s)
-  unfolding concluded statusBy
-  good-concluded clock x (Plausible n) s h z f a = good-ended (Replied n) x clock s h (named-replied n (z .status)) (z .short) f a
-  good-concluded clock x Vain s h z f a = good-retry clock s h f a
-  good-concluded clock x Foreign s h z f a = good-givenUp s h f a
-
-  pub good-rest : (s : Site) → FirmAt t ts s → Good t ts (still (rest s))
-  unfolding still rest withCore withDoing resting
-  good-rest s f = record { firm = f; apt = apt-idle _ _ _ _ _ _ _ _ _ }
+  abbrev pub poise : Ground
+  poise = record { Given = Poised t ts; moved = poised-moved; acted = poised-acted }

@@ -19,7 +19,6 @@ use Rattle.state.specs.Calls.{Started, Unstarted, Station}
 use Rattle.state.specs.World.{Rows, World, worldOf, stateOf}
 use Rattle.state.specs.Request.{UNKNOWN}
 use Rattle.state.specs.Refusals.{unstartable}
-use Rattle.state.specs.Calls as Calls
 use Rattle.state.specs.Calls.{emptyQueue, forgotten, noRows, freshCore, freshWorld, start}
 use Rattle.state.specs.Runs.{Call, run, Begun}
 use Rattle.state.proofs.Cases.{positive}
@@ -110,7 +109,7 @@ orderly-fresh t ts masters points high low s u v g a b c d =
           record {
             settings = refl;
             station = refl;
-            previous = previous-small t ts (g .startable .small) masters ts refl;
+            previous = previous-small masters ts ts (g .startable .small) refl;
             first = omega arith;
             among = g .startable .among;
             high = filed-empty ts high u (g .someHigh) (g .fewHigh) a b;

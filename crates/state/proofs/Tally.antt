@@ -24,16 +24,14 @@ use Rattle.state.specs.declared.Outcome.{Outcome}
 use Rattle.state.specs.declared.Outcome.the-variants.{Replied, Lost, Gone}
 use Rattle.state.specs.World.{Rows, Site, What, aRequest, aToken, aReply, Event, accepted, begins, ends, sends, confirmed, collected, indicated, resets, refused}
 use Rattle.state.specs.Request.{UNKNOWN, headFor, recordIn, dataIn, octetsIn, serviceOf, statusOf, marksAfter}
-use Rattle.state.specs.Counts.{Mark, answered, settled, destinationIn, controlIn, counts, Pending, none, sent, History, marksBy, alike, closes, heeds, history, Turn, first, again, Rightly}
-use Rattle.state.proofs.Standing.{flight}
+use Rattle.state.specs.Counts.{Mark, answered, settled, destinationIn, controlIn, counts, Pending, none, sent, History, marksBy, alike, closes, heeds, history, Turn, Rightly}
+use Rattle.state.proofs.Phases.{flight}
+use Rattle.state.proofs.Cases.{Any}
 use Rattle.state.proofs.Filed.{Filed}
 use Rattle.state.proofs.Poise.{queueBy}
 use Rattle.state.proofs.Agreed.{Agree, agree-set, agree-like, meaning-unknown, meaning-turned, destination-octets, control-octets, near, nearer, due-control, counts-control}
 
 -- ---- what is asked of events in a row: of each sending of a request, that it goes rightly
-pub data Any : Type 0 where
-  any : Any
-
 unfoldable pub Sent : What → List ℕ → History → Type 0
 Sent (aRequest p n) o h = Rightly h p n o
 Sent aToken o h = Any
@@ -53,16 +51,6 @@ Meets (refused n) h = Any
 unfoldable pub Counts : History → List Event → Type 0
 Counts h [] = Any
 Counts h (e ∷ l) = Meets e h × Counts (heeds e h) l
-
-pub history-append : (a b : List Event) (h : History) → history (a ++ b) h ≡ history b (history a h)
-unfolding history
-history-append [] b h = refl
-history-append (e ∷ a) b h = history-append a b (heeds e h)
-
-pub counts-append : (a b : List Event) (h : History) → Counts h a → Counts (history a h) b → Counts h (a ++ b)
-unfolding Counts history
-counts-append [] b h c d = d
-counts-append (e ∷ a) b h c d = (c .0, counts-append a b (heeds e h) (c .1) d)
 
 pub counts-split : (a b : List Event) (e : Event) (h : History) → Counts h (a ++ (e ∷ b)) → Meets e (history a h)
 unfolding Counts history

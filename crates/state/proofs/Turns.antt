@@ -148,19 +148,6 @@ mute (indicated h d ∷ l) = mute l
 mute (resets ∷ l) = mute l
 mute (refused n ∷ l) = mute l
 
-pub mute-append : (a b : List Event) → mute a ≡ true → mute b ≡ true → mute (a ++ b) ≡ true
-unfolding mute
-mute-append [] b h i = i
-mute-append (accepted q n ∷ a) b h i = absurd (true≢false (sym h))
-mute-append (begins ∷ a) b h i = mute-append a b h i
-mute-append (ends ∷ a) b h i = mute-append a b h i
-mute-append (sends x o t ∷ a) b h i = mute-append a b h i
-mute-append (confirmed q n s k ∷ a) b h i = absurd (true≢false (sym h))
-mute-append (collected q n r ∷ a) b h i = mute-append a b h i
-mute-append (indicated z d ∷ a) b h i = mute-append a b h i
-mute-append (resets ∷ a) b h i = mute-append a b h i
-mute-append (refused n ∷ a) b h i = mute-append a b h i
-
 none-accepted : (y : Priority) (l : List Event) → mute l ≡ true → acceptances y l ≡ []
 unfolding mute acceptances acceptedIn
 none-accepted y [] h = refl

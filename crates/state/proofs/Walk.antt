@@ -1,0 +1,315 @@
+-- Every call, of any world, is refused whole or is a trail of moves and acts: the one walk through the rules. Assumes
+-- nothing.
+use Prim.Native.Nat.{ℕ, zero, suc, _≤_, _<_}
+use mathlib.Core.Bool.{Bool, true, false}
+use mathlib.Core.Path.{_≡_, refl, sym, ap, _∙_}
+use mathlib.Core.List.{List, [], _∷_, _++_}
+use native.Mathlib.Omega.{arith}
+use lib.ListN.{length}
+use Rattle.choice.proofs.Rules.{pick-true, pick-false, true-same, false-same, true-less, false-less, unrefused, not-turned, is-said}
+use Rattle.frame.specs.declared.Part.{Part}
+use Rattle.frame.specs.declared.Fields.{Fields}
+use Rattle.frame.specs.declared.Fields.the-variants.{Token, Short, Frame}
+use Rattle.frame.specs.declared.Answer.{Answer as Reading}
+use Rattle.frame.specs.declared.Answer.the-variants.{Refused as Unread, Read}
+use Rattle.frame.specs.Reading.{read}
+use Rattle.ring.specs.Ring.{member}
+use Rattle.request.specs.declared.Record.{Record}
+use Rattle.queue.specs.declared.Queue.{Queue}
+use Rattle.queue.specs.declared.Taken.{Taken}
+use Rattle.queue.specs.declared.Collected.{Collected}
+use Rattle.queue.specs.declared.Collected.the-variants.{Refused as Uncollected, Handed}
+use Rattle.queue.specs.Queue as Q
+use Rattle.queue.specs.Queue.{freed, take}
+use Rattle.rows.specs.Rows.{Left, left, at, confirm, drain, submitted, handed}
+use Rattle.rows.proofs.Submitted.{Outcome, outcome}
+use Rattle.rows.proofs.Submitted.Outcome.{as-it-was, with-it}
+use Rattle.state.specs.declared.Phase.{Phase}
+use Rattle.state.specs.declared.Phase.the-variants.{Idle, Awaited, Sdn, Check, ToSelf}
+use Rattle.state.specs.declared.Priority.{Priority}
+use Rattle.state.specs.declared.Priority.the-variants.{High, Low}
+use Rattle.state.specs.declared.Core.{Core}
+use Rattle.state.specs.declared.Kept.{Kept}
+use Rattle.state.specs.declared.Choice.{Choice}
+use Rattle.state.specs.declared.Choice.the-variants.{Serve, PassOn}
+use Rattle.state.specs.declared.Outcome.{Outcome as Ending}
+use Rattle.state.specs.declared.Verdict.{Verdict}
+use Rattle.state.specs.declared.Verdict.the-variants.{Plausible, Vain, Foreign}
+use Rattle.state.specs.World.{Site, World, Event, Done, Called, refused, still, done, andThen, withQueue, queueOf, withCore, rowsOf, withRows, withSite, withMemory}
+use Rattle.state.specs.Request.{sendEvents, send, againEvents, againOf, again, closeOf, close}
+use Rattle.state.specs.Pass.{passEvents, pass, passAgain, recheck}
+use Rattle.state.specs.Hold.{choice, finish, chosen, choose, rest, begin, token, ended, retry, over, givenUp, concluded}
+use Rattle.state.specs.Answering.{Answered}
+use Rattle.state.specs.Refusals.{unstarted, lawless}
+use Rattle.state.specs.Calls as Calls
+use Rattle.state.specs.Calls.{called, replying, refuse, nothing, submitting, collecting, idle, idleRead, awaitedRead, heard, sentIn, slotIn, dismissed, dismissal, broken, countOf, drained, forgotten, freshWorld, resetting}
+use Rattle.state.specs.Runs.{Call, call}
+use Rattle.state.specs.Runs.Call.{submit, frame, sent, slot, reset, collect}
+use Rattle.state.proofs.Cases.{by, Any, any, positive}
+use Rattle.state.proofs.Phases.{flight, broken-by}
+use Rattle.state.proofs.Acts.{Point, calm, free, choosing, passing, halting, clearing, Closing, Move, Trail, stop, move, act, filled}
+use Rattle.state.proofs.Acts as Acts
+use Rattle.state.proofs.Answers.{Answers, none, replied, shown, Answering, answering-answer}
+use Rattle.state.proofs.Hearing.{Memorable, Lawful, statusBy, Minds, minds-answer, read-token, read-source, lawful-judged, short-updates}
+use Rattle.state.proofs.Places.{fewer}
+
+-- ---- the site
+pub record Goes (k : Type 0) (p : Point) (s : Site) (q : Point) (d : Done) : Type 0 where
+  pub trail : Trail k p s (d .events) q (d .site)
+
+module _ (k : Type 0) where
+  goes-still : (p : Point) (s : Site) → Goes k p s p (still s)
+  unfolding still
+  goes-still p s = record { trail = stop }
+
+  goes-after : {p q r : Point} {s t : Site} {d : Done} → Move k p s q t → Goes k q t r d → Goes k p s r d
+  goes-after m g = record { trail = move m (g .trail) }
+
+  -- ---- the pass and the choice
+  goes-pass : (s : Site) → Goes k passing s calm (pass s)
+  unfolding pass passEvents done
+  goes-pass s = record { trail = act (Acts.passes s) stop }
+
+  goes-recheck : (s : Site) → (k → s .core .doing .phase ≡ Check) → Goes k calm s calm (recheck s)
+  unfolding recheck passAgain done
+  goes-recheck s e =
+      by (Goes k calm s calm) _ _ _ (λ h. record { trail = act (Acts.repasses s e (true-less _ _ h)) stop })
+      (λ h. goes-after (Acts.drops s e (false-less _ _ h)) (goes-pass _))
+
+  goes-chosen : (starts : Bool) (clock : ℕ) (x : Choice) (s : Site) → choice starts (s .core) clock ≡ x → Goes k (choosing starts) s calm (chosen x s)
+  unfolding chosen send sendEvents finish andThen done
+  goes-chosen starts clock (Serve y) s e = record { trail = act (Acts.serves starts clock y s e) stop }
+  goes-chosen starts clock PassOn s e = record { trail = act (Acts.stops starts clock s e) (goes-pass s .trail) }
+
+  goes-choose : (starts : Bool) (clock : ℕ) (s : Site) → Goes k (choosing starts) s calm (choose starts clock s)
+  unfolding choose
+  goes-choose starts clock s = goes-chosen starts clock _ s refl
+
+  -- ---- a hold's start
+  goes-begin : (clock : ℕ) (s : Site) → Goes k free s calm (begin clock s)
+  unfolding begin andThen done
+  goes-begin clock s = record { trail = act (Acts.opens clock s) (goes-choose true clock _ .trail) }
+
+  pub goes-token : (clock d a : ℕ) (s : Site) → (k → a ≤ 126) → (k → flight (s .core .doing .phase) ≡ false) → Goes k calm s calm (token clock d a s)
+  unfolding token
+  goes-token clock d a s h f =
+      by (Goes k calm s calm) _ _ _
+      (λ e. by (Goes k calm s calm) _ _ _ (λ e. goes-still calm s)
+      (λ n. by (Goes k calm s calm) _ _ _ (λ e. goes-after (Acts.lets-go s f) (goes-begin clock s))
+      (λ m. by (Goes k calm s calm) _ _ _
+      (λ e. goes-after (Acts.lets-go s f) (goes-after (Acts.admits a s h (false-same _ _ n) (true-same _ _ e)) (goes-begin clock _)))
+      (λ e. goes-after (Acts.notes a s h (false-same _ _ n) (false-same _ _ m) (false-same _ _ e)) (goes-still calm _)))))
+      (λ e. goes-still calm s)
+
+  -- ---- a request's end
+  goes-ended : (x : Phase) (o : Ending) (l : List ℕ) (clock : ℕ) (s : Site) → (k → s .core .doing .phase ≡ x) → (k → Closing x o l) → Goes k calm s calm (ended o l clock s)
+  unfolding ended close closeOf andThen done
+  goes-ended x o l clock s e c =
+      record { trail = act (Acts.closes _ x o l s refl e c) (goes-choose false clock _ .trail) }
+
+  goes-givenUp : (s : Site) → (k → s .core .doing .phase ≡ Awaited) → Goes k calm s calm (givenUp s)
+  unfolding givenUp close closeOf over andThen done
+  goes-givenUp s e =
+      record { trail = act (Acts.closes _ Awaited _ [] s refl e (λ z. Acts.lost)) (act (Acts.quits _) (move (Acts.rests _) stop)) }
+
+  goes-retry : (clock : ℕ) (s : Site) → (k → s .core .doing .phase ≡ Awaited) → Goes k calm s calm (retry clock s)
+  unfolding retry again againOf againEvents done
+  goes-retry clock s e =
+      by (Goes k calm s calm) _ _ _ (λ h. goes-ended Awaited _ [] clock s e (λ z. Acts.lost))
+      (λ h. record { trail = act (Acts.repeats _ s refl e (false-less _ _ h)) stop })
+
+  goes-concluded : (clock : ℕ) (x : List ℕ) (v : Verdict) (s : Site) → (k → s .core .doing .phase ≡ Awaited) → (k → Lawful x v) → Goes k calm s calm (concluded clock x v s)
+  unfolding concluded statusBy
+  goes-concluded clock x (Plausible n) s e l =
+      goes-ended Awaited _ x clock s e (λ z. Acts.replied n x (l z .status) (l z .low) (l z .short))
+  goes-concluded clock x Vain s e l = goes-retry clock s e
+  goes-concluded clock x Foreign s e l = goes-givenUp s e
+
+  pub goes-awaited : (clock : ℕ) (octets : List ℕ) (r : Reading) (s : Site) → (k → read octets ≡ r) → (k → s .core .doing .phase ≡ Awaited) → Goes k calm s calm (awaitedRead clock octets r s)
+  unfolding awaitedRead
+  goes-awaited clock octets (Unread n) s i e = goes-retry clock s e
+  goes-awaited clock octets (Read f p) s i e = goes-concluded clock _ _ s e (λ z. lawful-judged octets f p _ _ (i z))
+
+  pub goes-sent : (x : Phase) (clock : ℕ) (s : Site) → (k → s .core .doing .phase ≡ x) → Goes k calm s calm (sentIn x clock s)
+  unfolding sentIn flight
+  goes-sent Idle clock s e = goes-still calm s
+  goes-sent Awaited clock s e = goes-still calm s
+  goes-sent Sdn clock s e = goes-ended Sdn _ [] clock s e (λ z. Acts.gone)
+  goes-sent Check clock s e = goes-still calm s
+  goes-sent ToSelf clock s e = goes-after (Acts.lets-go s (λ z. ap flight (e z))) (goes-begin clock s)
+
+  pub goes-slot : (x : Phase) (clock : ℕ) (s : Site) → (k → s .core .doing .phase ≡ x) → Goes k calm s calm (slotIn x clock s)
+  unfolding slotIn
+  goes-slot Idle clock s e = goes-still calm s
+  goes-slot Awaited clock s e = goes-retry clock s e
+  goes-slot Sdn clock s e = goes-still calm s
+  goes-slot Check clock s e = goes-recheck s e
+  goes-slot ToSelf clock s e = goes-still calm s
+
+-- ---- the answering side
+trail-answers : {l : List Event} (s : Site) → Answers (s .core) l → Trail Any calm s l calm s
+trail-answers s none = stop
+trail-answers s (replied o l a) = act (Acts.replies o s) (trail-answers s a)
+trail-answers s (shown h d l a) = act (Acts.shows any h d s) (trail-answers s a)
+
+-- ---- a call that is carried out
+pub record Carried (w : World) (d : Called) : Type 0 where
+  pub trail : Trail Any calm (w .site) (d .events) calm (d .world .site)
+  pub started : d .world .started ≡ w .started
+  pub memory : Memorable (w .memory) → Memorable (d .world .memory)
+
+pub carried-nothing : (w : World) → Carried w (nothing w)
+unfolding nothing
+carried-nothing w = record { trail = stop; started = refl; memory = λ m. m }
+
+carried-called : (d : Done) (w : World) → Goes Any calm (w .site) calm d → Carried w (called d w)
+unfolding called withSite
+carried-called d w g = record { trail = g .trail; started = refl; memory = λ m. m }
+
+carried-replying : (a : Answered) (w : World) → Answering (w .site .core) a → (Memorable (w .memory) → Minds a) → Carried w (replying a w)
+unfolding replying withMemory
+carried-replying a w t m = record { trail = trail-answers (w .site) (t .told); started = refl; memory = λ z. m z .memory }
+
+-- after the pass's check is let go
+carried-rested : {d : Called} (w : World) → flight (w .site .core .doing .phase) ≡ false → Carried (withSite (rest (w .site)) w) d → Carried w d
+unfolding withSite
+carried-rested w f c =
+    record { trail = move (Acts.lets-go _ (λ z. f)) (move (Acts.rests _) (c .trail)); started = c .started; memory = c .memory }
+
+-- ---- frame
+module _ (clock : ℕ) (room : Bool) (high low octets : List ℕ) (u : length high ≤ 244) (l : length low ≤ 244) where
+  carried-idle : (x : Fields) (d : Part) (w : World) → read octets ≡ Read x d → flight (w .site .core .doing .phase) ≡ false → Carried w (idle clock room high low x d w)
+  unfolding idle
+  carried-idle (Token a b) d w e f = carried-called _ w (goes-token Any clock _ _ (w .site) (λ z. read-token octets a b d e) (λ z. f))
+  carried-idle Short d w e f = carried-nothing w
+  carried-idle (Frame h) d w e f =
+      carried-replying _ w (answering-answer _ _ _ room high low h d) (λ m. minds-answer _ _ _ room high low h d m (read-source octets h d e) u l)
+
+  carried-read : (r : Reading) (w : World) → read octets ≡ r → flight (w .site .core .doing .phase) ≡ false → Carried w (idleRead clock room high low r w)
+  unfolding idleRead
+  carried-read (Unread n) w e f = carried-nothing w
+  carried-read (Read x d) w e f = carried-idle x d w e f
+
+  rest-unflown : (s : Site) → flight (rest s .core .doing .phase) ≡ false
+  unfolding rest withCore Rattle.state.specs.World.withDoing Rattle.state.specs.Hold.resting flight
+  rest-unflown s = refl
+
+  carried-check : (w : World) → flight (w .site .core .doing .phase) ≡ false → Carried w (idleRead clock room high low (read octets) (withSite (rest (w .site)) w))
+  unfolding withSite
+  carried-check w f = carried-rested w f (carried-read _ _ refl (rest-unflown (w .site)))
+
+  pub carried-heard : (x : Phase) (w : World) → w .site .core .doing .phase ≡ x → Carried w (heard x clock room high low octets w)
+  unfolding heard flight
+  carried-heard Idle w e = carried-read _ w refl (ap flight e)
+  carried-heard Awaited w e = carried-called _ w (goes-awaited Any clock octets _ (w .site) (λ z. refl) (λ z. e))
+  carried-heard Sdn w e = carried-nothing w
+  carried-heard Check w e = carried-check w (ap flight e)
+  carried-heard ToSelf w e = carried-nothing w
+
+pub carried-sent : (clock : ℕ) (w : World) → Carried w (called (sentIn (w .site .core .doing .phase) clock (w .site)) w)
+carried-sent clock w = carried-called _ w (goes-sent Any _ clock (w .site) (λ z. refl))
+
+pub carried-slot : (clock : ℕ) (w : World) → Carried w (called (slotIn (w .site .core .doing .phase) clock (w .site)) w)
+carried-slot clock w = carried-called _ w (goes-slot Any _ clock (w .site) (λ z. refl))
+
+-- ---- reset
+drain-none : (n m : ℕ) (l : Left Queue) → n ≡ l .answer .unconfirmed → drain n m l .answer .unconfirmed ≡ 0
+unfolding drain confirm
+drain-none zero m l e = sym e
+drain-none (suc n) m l e = drain-none n 0 _ (fewer n (l .answer) e)
+
+among-started : (c : Core) (masters started : List ℕ) (k : Kept) → lawless c masters started k ≡ false → member started (c .ts .0) ≡ true
+unfolding lawless unstarted
+among-started c masters started k e = is-said (not-turned _ (unrefused _ _ (is-said (unrefused _ _ e .0)) .1))
+
+module _ (k : Type 0) where
+  halts : (b : Bool) (s t : Site) (l : List Event) → flight (s .core .doing .phase) ≡ b → Trail k (clearing (countOf High (s .core)) (countOf Low (s .core))) s l calm t → Trail k halting s (broken (s .core .doing .phase) ++ l) calm t
+  halts true s t l e i = rw (broken-by (s .core .doing .phase) ∙ pick-true _ _ e) (act (Acts.breaks s e) i)
+  halts false s t l e i = rw (broken-by (s .core .doing .phase) ∙ pick-false _ _ e) (move (Acts.spares s e) i)
+
+  clears-high : (n a b : ℕ) (s t : Site) (l : List Event) → n ≡ s .core .high .unconfirmed → ((c : ℕ) → Trail k (clearing c b) (filled High (drain n a (left (s .core .high) (s .high .row) (s .high .area))) s) l calm t) → Trail k (clearing a b) s (dismissed High n a (s .core .high) ++ l) calm t
+  unfolding dismissed drain confirm withRows withCore withQueue queueOf rowsOf
+  clears-high zero a b s t l e i = i a
+  clears-high (suc n) a b s t l e i =
+      act (Acts.clears-high a b s (omega arith)) (clears-high n 0 b _ t l (fewer n (s .core .high) e) i)
+
+  clears-low : (n a b : ℕ) (s t : Site) → n ≡ s .core .low .unconfirmed → ((c : ℕ) → Trail k (clearing a c) (filled Low (drain n b (left (s .core .low) (s .low .row) (s .low .area))) s) [] calm t) → Trail k (clearing a b) s (dismissed Low n b (s .core .low)) calm t
+  unfolding dismissed drain confirm withRows withCore withQueue queueOf rowsOf
+  clears-low zero a b s t e i = i b
+  clears-low (suc n) a b s t e i =
+      act (Acts.clears-low a b s (omega arith)) (clears-low n a 0 _ t (fewer n (s .core .low) e) i)
+
+  pub trail-resetting : (w : World) → (k → member (w .started) (w .site .core .ts .0) ≡ true) → Trail k calm (w .site) (resetting w .events) calm (resetting w .world .site)
+  unfolding resetting freshWorld dismissal drained queueOf rowsOf withRows withCore withQueue
+  trail-resetting w e =
+      act (Acts.restarts (w .site))
+      (halts _ (w .site) _ _ refl
+      (clears-high _ _ _ (w .site) _ _ refl
+      (λ a. clears-low _ _ _ (filled High (drained High (w .site)) (w .site)) _ refl
+      (λ b. move (Acts.renews a b (w .started) _ e (drain-none _ _ _ refl) (drain-none _ _ _ refl)) stop))))
+
+reset-rest : (w : World) → (resetting w .world .started ≡ w .started) × Memorable (resetting w .world .memory)
+unfolding resetting freshWorld forgotten
+reset-rest w = (refl, record { source = omega arith; reply = omega arith })
+
+pub carried-resetting : (w : World) → lawless (w .site .core) (w .site .masters) (w .started) (w .memory .kept) ≡ false → Carried w (resetting w)
+carried-resetting w e =
+    record {
+      trail = trail-resetting Any w (λ z. among-started (w .site .core) (w .site .masters) (w .started) _ e);
+      started = reset-rest w .0;
+      memory = λ m. reset-rest w .1;
+    }
+
+-- ---- any call is refused whole, or carried out
+pub data Course (w : World) : Called → Type 0 where
+  declined : (n : ℕ) → Course w (refuse n w)
+  carried : {d : Called} → Carried w d → Course w d
+
+spurned : (n : ℕ) (w : World) → Course w (called (done (w .site) (refused n ∷ [])) w)
+unfolding called done withSite refuse
+spurned n w = declined n
+
+abbrev submittedTo : Priority → Record → List ℕ → Site → Left Taken
+submittedTo y r x s = submitted (s .core .ts .0) (queueOf y (s .core)) r x (rowsOf y s .row) (rowsOf y s .area)
+
+course-submit : (y : Priority) (r : Record) (x : List ℕ) (w : World) → Outcome (w .site .core .ts .0) (queueOf y (w .site .core)) r x (rowsOf y (w .site) .row) (rowsOf y (w .site) .area) (submittedTo y r x (w .site)) → Course w (called (submitting y (submittedTo y r x (w .site)) (w .site)) w)
+unfolding submitting done take Q.refuse
+course-submit y r x w (as-it-was n z e) =
+    rw (← e) (by (λ (d : Done). Course w (called d w)) _ _ _ (λ b. absurd (z (true-same n 0 b))) (λ b. spurned n w))
+course-submit y r x w (with-it u v a e) =
+    rw (← e)
+    (by (λ (d : Done). Course w (called d w)) _ _ _
+    (λ b. carried (carried-called _ w (record { trail = act (Acts.takes y r x (w .site) a e) stop })))
+    (λ b. spurned 0 w))
+
+-- a fact of what a queue hands back: of every refusal, and of its oldest confirmed record
+pub handed-back : (P : Collected → Type 0) (q : Queue) (row area : List ℕ) → ((n : ℕ) → P (Uncollected n)) → (0 < q .confirmed → P (Handed (q .first) (at row (q .first)) (freed q))) → P (handed q row area)
+unfolding handed Q.collected
+handed-back P q row area f g =
+    by P _ _ _ (λ e. f 21)
+    (λ e. by P _ _ _ (λ e. f 29)
+    (λ e. by P _ _ _ (λ e. f 28) (λ e. by P _ _ _ (λ i. g (positive _ (false-same _ _ e))) (λ i. f 29))))
+
+pub course-collect : (y : Priority) (w : World) → Course w (called (collecting y (handed (queueOf y (w .site .core)) (rowsOf y (w .site) .row) (rowsOf y (w .site) .area)) (w .site)) w)
+unfolding collecting done
+course-collect y w =
+    handed-back (λ (c : Collected). Course w (called (collecting y c (w .site)) w)) _ _ _ (λ n. spurned n w)
+    (λ h. carried (carried-called _ w (record { trail = act (Acts.hands y (w .site) h) stop })))
+
+pub course : (c : Call) (w : World) → Course w (call c w)
+unfolding call Calls.submit Calls.collect Calls.reset Calls.frame Calls.sent Calls.slot
+course (submit y r x) w =
+    by (Course w) _ _ _ (λ e. declined 21)
+    (λ e. by (Course w) _ _ _ (λ e. declined 29) (λ e. course-submit y r x w (outcome _ _ r x _ _)))
+course (frame clock room high low octets out) w =
+    by (Course w) _ _ _
+    (λ e. let u = short-updates out (length high) (length low) w (true-same _ _ e) in carried (carried-heard clock room high low octets (u .0) (u .1) _ w refl))
+    (λ e. declined _)
+course (sent clock out) w = by (Course w) _ _ _ (λ e. carried (carried-sent clock w)) (λ e. declined _)
+course (slot clock out) w = by (Course w) _ _ _ (λ e. carried (carried-slot clock w)) (λ e. declined _)
+course reset w =
+    by (Course w) _ _ _ (λ e. declined 21)
+    (λ e. by (Course w) _ _ _ (λ e. declined 21)
+    (λ e. by (Course w) _ _ _ (λ e. declined 29) (λ e. carried (carried-resetting w (is-said e)))))
+course (collect y) w =
+    by (Course w) _ _ _ (λ e. declined 21) (λ e. by (Course w) _ _ _ (λ e. declined 29) (λ e. course-collect y w))
