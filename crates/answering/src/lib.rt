@@ -1,6 +1,7 @@
 // The answering side: what is answered to a request in Idle, by its address and its service. It touches no queue and no
 // token. Assumes nothing.
 ghost use mathlib.Core.Path.{_≡_};
+ghost use Rattle.choice.specs.Choice.{same, either};
 ghost use Rattle.state.specs.Answering.{Asked, memory, answerAs, answerTo};
 ghost use Rattle.state.specs.Answering.{answer as Answering·answer};
 ghost use Rattle.state.specs.Told.{Says};
@@ -32,41 +33,39 @@ fn answer_as<'a>(
     ensures { λ r. ⌜ Says (answerAs a c (now (points .entry)) (memory k (now (octets .entry))) fcb fcv room (now (high .entry)) (now (low .entry)) h p .memory .kept) (answerAs a c (now (points .entry)) (memory k (now (octets .entry))) fcb fcv room (now (high .entry)) (now (low .entry)) h p .events) (now (out .entry)) r (now (out .exit)) ⌝ }
     ensures { λ _. ⌜ now (octets .exit) ≡ answerAs a c (now (points .entry)) (memory k (now (octets .entry))) fcb fcv room (now (high .entry)) (now (low .entry)) h p .memory .octets ⌝ }
 {
+    let sda;
     match a {
-        Asks::Sda => counted::answer_counted(
-            c,
-            points,
-            k,
-            octets,
-            true,
-            fcb,
-            fcv,
-            room,
-            high,
-            low,
-            h,
-            p,
-            out,
-        ),
-        Asks::Srd => counted::answer_counted(
-            c,
-            points,
-            k,
-            octets,
-            false,
-            fcb,
-            fcv,
-            room,
-            high,
-            low,
-            h,
-            p,
-            out,
-        ),
-        Asks::Sdn => answers::answer_sdn(points, k, room, h, p),
-        Asks::Status => answers::answer_status(c, k, h, out),
-        Asks::Never => answers::silent(k, Indication::None),
+        Asks::Sda => {
+            sda = true;
+        }
+        Asks::Srd => {
+            sda = false;
+        }
+        Asks::Sdn => {
+            return answers::answer_sdn(points, k, room, h, p);
+        }
+        Asks::Status => {
+            return answers::answer_status(c, k, h, out);
+        }
+        Asks::Never => {
+            return answers::silent(k, Indication::None);
+        }
     }
+    counted::answer_counted(
+        c,
+        points,
+        k,
+        octets,
+        sda,
+        fcb,
+        fcv,
+        room,
+        high,
+        low,
+        h,
+        p,
+        out,
+    )
 }
 
 fn answer_to<'a>(
@@ -108,6 +107,19 @@ fn answer_to<'a>(
     }
 }
 
+// Whether an address is that of TS or of all.
+fn ours(destination: u8, ts: u8) -> bool
+    ensures { λ r. ⌜ r ≡ either (same destination ts) (same destination 127) ⌝ }
+{
+    if destination == ts {
+        return true;
+    }
+    if destination == 127 {
+        return true;
+    }
+    false
+}
+
 // Answers a request to TS or to all.
 pub fn answer<'a>(
     c: Core,
@@ -128,10 +140,7 @@ pub fn answer<'a>(
     let control = h.control;
     let destination = h.destination;
     let ts = c.ts;
-    if destination.0 == ts.0 {
-        return answer_to(control, c, points, k, octets, room, high, low, h, p, out);
-    }
-    if destination.0 == 127 {
+    if ours(destination.0, ts.0) {
         return answer_to(control, c, points, k, octets, room, high, low, h, p, out);
     }
     answers::silent(k, Indication::None)

@@ -5,7 +5,6 @@ ghost use mathlib.Core.Path.{_≡_};
 ghost use Prim.Native.Nat.{_+_, _≤_};
 ghost use lib.ListN.{length};
 ghost use Rattle.control.specs.Control.{controlOf};
-ghost use Rattle.control.specs.Control.{listed as Control·listed};
 ghost use Rattle.frame.specs.Reading.{octet, accessOf, dataAt, headOf, bodyRefusal, bodyAnswer};
 ghost use Rattle.frame.specs.Reading.{extensions as Reading·extensions, extended as Reading·extended, misnamed as Reading·misnamed};
 use control::Control;
@@ -106,17 +105,9 @@ fn source_misnamed(b: &[u8], d: u8, s: u8) -> bool
     misnamed(b, s, 3 + extensions(d), 62)
 }
 
-// Whether an FC octet is listed, by the control that it is read as.
-fn listed(c: Control, n: u8) -> bool
-    requires { ⌜ c ≡ controlOf n ⌝ }
-    ensures { λ r. ⌜ r ≡ Control·listed n ⌝ }
-{
-    control::named(c, n)
-}
-
-// The refusal 8..11 of a body, or 0, with the control that its FC is read as.
-fn body_refusal(b: &[u8], c: Control) -> u8
-    requires { ⌜ (3 ≤ length (now b)) × (c ≡ controlOf (octet (now b) 2)) ⌝ }
+// The refusal 8..11 of a body, or 0.
+fn body_refusal(b: &[u8]) -> u8
+    requires { ⌜ 3 ≤ length (now b) ⌝ }
     ensures { λ r. ⌜ r ≡ bodyRefusal (now (b .entry)) ⌝ }
 {
     let d = b[0];
@@ -128,7 +119,7 @@ fn body_refusal(b: &[u8], c: Control) -> u8
     if extended(b) {
         return 8;
     }
-    if !listed(c, control) {
+    if !control::listed(control) {
         return 9;
     }
     if misnamed(b, d, 3, 63) {
@@ -148,11 +139,11 @@ pub fn body_answer(b: &[u8], start: usize) -> Answer
     requires { ⌜ (3 ≤ length (now b)) × (start ≤ 4) ⌝ }
     ensures { λ r. ⌜ r ≡ bodyAnswer (now (b .entry)) start ⌝ }
 {
-    let control = control::control_of(b[2]);
-    let refused = body_refusal(b, control);
+    let refused = body_refusal(b);
     if refused != 0 {
         return Answer::Refused(refused);
     }
+    let control = control::control_of(b[2]);
     let at = data_at(b);
     Answer::Read(
         Fields::Frame(head_of(b, control)),

@@ -5,6 +5,7 @@ ghost use Prim.Native.Nat.{_<_, _/_, _%_};
 ghost use mathlib.Core.Bool.{false};
 ghost use Rattle.choice.specs.Choice.{pick, same};
 ghost use Rattle.control.specs.Control.{serviceNumber, serviceOf, codeNumber, codeOf, typeNumber, typeOf, controlOf};
+ghost use Rattle.control.specs.Halves.{replied as Halves·replied, requested as Halves·requested, numbered as Halves·numbered};
 ghost use Rattle.control.specs.Control.{bit as Control·bit, fc as Control·fc, counted as Control·counted, lawful as Control·lawful, listed as Control·listed, sdn as Control·sdn};
 
 // What a request asks for.
@@ -282,12 +283,107 @@ pub fn named(c: Control, n: u8) -> bool
     false
 }
 
-// Whether an octet is an FC that the standard lists.
+// Whether a number is a reply code's.
+fn replied(x: u8) -> bool
+    ensures { λ r. ⌜ r ≡ Halves·replied x ⌝ }
+{
+    if x == 0 {
+        return true;
+    }
+    if x == 1 {
+        return true;
+    }
+    if x == 2 {
+        return true;
+    }
+    if x == 3 {
+        return true;
+    }
+    if x == 8 {
+        return true;
+    }
+    if x == 9 {
+        return true;
+    }
+    if x == 10 {
+        return true;
+    }
+    if x == 12 {
+        return true;
+    }
+    if x == 13 {
+        return true;
+    }
+    false
+}
+
+// Whether a number is a service's.
+fn requested(x: u8) -> bool
+    ensures { λ r. ⌜ r ≡ Halves·requested x ⌝ }
+{
+    if x == 3 {
+        return true;
+    }
+    if x == 4 {
+        return true;
+    }
+    if x == 5 {
+        return true;
+    }
+    if x == 6 {
+        return true;
+    }
+    if x == 9 {
+        return true;
+    }
+    if x == 12 {
+        return true;
+    }
+    if x == 13 {
+        return true;
+    }
+    if x == 14 {
+        return true;
+    }
+    if x == 15 {
+        return true;
+    }
+    false
+}
+
+// Whether a number is a counted service's.
+fn numbered(x: u8) -> bool
+    ensures { λ r. ⌜ r ≡ Halves·numbered x ⌝ }
+{
+    if x == 3 {
+        return true;
+    }
+    if x == 5 {
+        return true;
+    }
+    if x == 12 {
+        return true;
+    }
+    if x == 13 {
+        return true;
+    }
+    false
+}
+
+// Whether an octet is an FC that the standard lists, by its halves.
 pub fn listed(n: u8) -> bool
     ensures { λ r. ⌜ r ≡ Control·listed n ⌝ }
 {
-    let c = control_of(n);
-    named(c, n)
+    if n < 80 {
+        if n < 64 {
+            return replied(n % 16);
+        }
+        return requested(n % 16);
+    }
+    if n < 128 {
+        return numbered(n % 16);
+    }
+    false
 }
 
 // Whether an FC octet is an SDN, low or high.

@@ -33,48 +33,41 @@ pub fn hear<'a>(
 {
     let doing = c.doing;
     let phase = doing.phase;
+    let core;
     match phase {
-        Phase::Idle => hearing::idle_read(
-            clock,
-            room,
-            first,
-            second,
-            s,
-            c,
-            k,
-            masters,
-            marks,
-            points,
-            octets,
-            high,
-            harea,
-            low,
-            larea,
-            out,
-        ),
+        Phase::Idle => {
+            core = c;
+        }
         Phase::Awaited => {
             let m = phases::awaited(clock, s, c, masters, marks, high, harea, low, larea, out);
-            hearing::moved(m, k)
+            return hearing::moved(m, k);
         }
-        Phase::Sdn => hearing::moved(tokens::quiet(c), k),
-        Phase::Check => hearing::idle_read(
-            clock,
-            room,
-            first,
-            second,
-            s,
-            acts::with_doing(acts::resting(doing), c),
-            k,
-            masters,
-            marks,
-            points,
-            octets,
-            high,
-            harea,
-            low,
-            larea,
-            out,
-        ),
-        Phase::ToSelf => hearing::moved(tokens::quiet(c), k),
+        Phase::Sdn => {
+            return hearing::moved(tokens::quiet(c), k);
+        }
+        Phase::Check => {
+            core = acts::with_doing(acts::resting(doing), c);
+        }
+        Phase::ToSelf => {
+            return hearing::moved(tokens::quiet(c), k);
+        }
     }
+    hearing::idle_read(
+        clock,
+        room,
+        first,
+        second,
+        s,
+        core,
+        k,
+        masters,
+        marks,
+        points,
+        octets,
+        high,
+        harea,
+        low,
+        larea,
+        out,
+    )
 }

@@ -3,6 +3,7 @@
 ghost use mathlib.Core.Path.{_≡_};
 ghost use Prim.Native.Nat.{_+_, _≤_};
 ghost use lib.ListN.{length};
+ghost use Rattle.choice.specs.Choice.{less, same, either};
 ghost use Rattle.laid.specs.Laid.{laid};
 ghost use Rattle.request.specs.Record.{accessOf, recordAt, octets};
 ghost use Rattle.request.specs.Record.{named as Record·named, misaddressed as Record·misaddressed, beyond as Record·beyond, mispointed as Record·mispointed, unserved as Record·unserved, extensions as Record·extensions, overlong as Record·overlong, unfit as Record·unfit};
@@ -188,14 +189,41 @@ fn overlong(to: u8, from: u8, n: usize) -> bool
     false
 }
 
-// The refusal 23..26 of a request of station TS with n octets of data, or 0.
+// Whether an access point is none, or one that either side and every service may have.
+fn usual(point: u8) -> bool
+    ensures { λ r. ⌜ r ≡ either (less point 63) (same point 255) ⌝ }
+{
+    if point < 63 {
+        return true;
+    }
+    if point == NONE {
+        return true;
+    }
+    false
+}
+
+// The refusal 23..26 of a request of station TS with n octets of data, or 0. Most records are fit at the first look.
 pub fn unfit(ts: Address, r: Record, n: usize) -> u8
     ensures { λ x. ⌜ x ≡ Record·unfit (ts .0) r n ⌝ }
 {
     let service = r.service;
     let to = r.to.0;
     let from = r.from.0;
-    if misaddressed(ts.0, r.destination.0, service) {
+    let destination = r.destination.0;
+    if destination < 127 {
+        if destination != ts.0 {
+            if usual(to) {
+                if usual(from) {
+                    if n < 245 {
+                        if !unserved(service) {
+                            return 0;
+                        }
+                    }
+                }
+            }
+        }
+    }
+    if misaddressed(ts.0, destination, service) {
         return 23;
     }
     if mispointed(to, from, service) {

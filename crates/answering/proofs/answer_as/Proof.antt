@@ -1,5 +1,7 @@
 -- `answering::answer_as` meets its contract. Assumes nothing.
-use mathlib.Core.Path.{refl}
+use mathlib.Core.Bool.{true, false}
+use mathlib.Core.Path.{_≡_, refl}
+use mathlib.Core.Logic.{⊎-elim}
 use Rattle.state.specs.Answering.{answered, sdnEvents, answerAs}
 use Rattle.answers.proofs.Says.{says-nothing, says-shows}
 use borrow.Author.Needs.{needs}
@@ -7,24 +9,47 @@ use Rattle.answering.proofs.answer_as.Statement.{statement}
 use Rattle.answering.proofs.answer_as.Tie as tie
 
 returns : tie.Need-returns
-unfolding answerAs
-returns c = rw (c .before .before .before .before .before .enum-told .given .1) (c .before .before .answer-counted .ensures)
+unfolding answerAs answered sdnEvents
+returns c = rw (c .before .enum-told3 .given .1, c .answer-sdn .ensures) (says-shows _ _ _ _ _, refl)
 
 returns-2 : tie.Need-returns-2
-unfolding answerAs
-returns-2 c = rw (c .before .before .before .before .before .enum-told2 .given .1) (c .before .before .answer-counted2 .ensures)
+unfolding answerAs answered
+returns-2 c = rw (c .before .before .before .before .enum-told4 .given .1) (c .before .before .answer-status .ensures, refl)
 
 returns-3 : tie.Need-returns-3
-unfolding answerAs answered sdnEvents
-returns-3 c = rw (c .before .enum-told3 .given .1, c .answer-sdn .ensures) (says-shows _ _ _ _ _, refl)
+unfolding answerAs answered
+returns-3 c = rw (c .before .enum-told5 .given .1, c .silent .ensures) (says-nothing _ _, refl)
 
 returns-4 : tie.Need-returns-4
-unfolding answerAs answered
-returns-4 c = rw (c .before .before .before .before .enum-told4 .given .1) (c .before .before .answer-status .ensures, refl)
-
-returns-5 : tie.Need-returns-5
-unfolding answerAs answered
-returns-5 c = rw (c .before .enum-told5 .given .1, c .silent .ensures) (says-nothing _ _, refl)
+unfolding answerAs
+returns-4 c =
+    let m = c .before .before .before .before .before .match in
+    let e = c .before .before .answer-counted .ensures in
+    ⊎-elim
+    (λ a.
+    let s : m .sda ≡ true = a .2 in
+    rw (a .1 .given .1) (rw s at e))
+    (λ a.
+    let s : m .sda ≡ false = a .2 in
+    rw (a .1 .given .1) (rw s at e))
+    (m .came)
 
 pub answer-as-spec : {M : Type 1} → statement M
-answer-as-spec = tie.close (tie.spec (λ c. search needs) (λ c κs. search needs) (λ c. search needs) (λ c κs. search needs) (λ c. search needs) (λ c κs. search needs) (λ c. search needs) (λ c κs. search needs) (λ c. search needs) (λ c κs. search needs) (λ c. search needs) returns (λ c. search needs) returns-2 returns-3 (λ c. search needs) returns-4 returns-5)
+answer-as-spec =
+    tie.close
+    (tie.spec
+    (λ c. search needs)
+    (λ c. search needs)
+    (λ c. search needs)
+    (λ c κs. search needs)
+    returns
+    (λ c. search needs)
+    (λ c κs. search needs)
+    (λ c. search needs)
+    returns-2
+    (λ c. search needs)
+    (λ c κs. search needs)
+    returns-3
+    (λ c κs. search needs)
+    (λ c. search needs)
+    returns-4)

@@ -28,10 +28,10 @@ pub body-answer-spec : {M : Type 1} → statement M
 body-answer-spec =
     tie.close
     (tie.spec
-    (λ c. search needs)
-    (λ c κs. search needs)
     (λ c κs. search needs)
     returns
+    (λ c. search needs)
+    (λ c κs. search needs)
     (λ c κs. search needs)
     head-of-requires
     (λ c. omega arith)

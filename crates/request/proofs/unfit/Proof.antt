@@ -1,13 +1,21 @@
--- `request::unfit` meets its contract. Assumes nothing.
+-- `request::unfit` meets its contract: fit at the first look, or each return is one case of the chain.
+-- Assumes nothing.
+use mathlib.Core.Path.{sym, _∙_}
+use borrow.Author.Tests.{not-true}
 use Rattle.request.specs.Record.{unfit}
+use Rattle.request.proofs.Look.{fit}
 use Rattle.choice.proofs.Rules.{picks, asked}
 use borrow.Author.Needs.{needs}
 use Rattle.request.proofs.unfit.Statement.{statement}
 use Rattle.request.proofs.unfit.Tie as tie
 
 returns : tie.Need-returns
-unfolding unfit
-returns c = search (picks, asked) depth 20
+returns c =
+    let a = c .before .before .before .before .before .before .before .before .before .before .args in
+    sym
+    (fit (a .ts .0) (a .r) (a .n) (c .before .before .before .before .before .before .before .before .before .if1 .taken) (c .before .before .before .before .before .before .before .if2 .taken)
+    (sym (c .before .before .before .before .before .before .usual .ensures) ∙ c .before .before .before .before .before .if3 .taken) (sym (c .before .before .before .before .usual2 .ensures) ∙ c .before .before .before .if4 .taken)
+    (c .before .before .if5 .taken) (sym (c .before .unserved .ensures) ∙ not-true _ (c .if6 .taken)))
 
 returns-2 : tie.Need-returns-2
 unfolding unfit
@@ -25,10 +33,16 @@ returns-5 : tie.Need-returns-5
 unfolding unfit
 returns-5 c = search (picks, asked) depth 20
 
+returns-6 : tie.Need-returns-6
+unfolding unfit
+returns-6 c = search (picks, asked) depth 20
+
 pub unfit-spec : {M : Type 1} → statement M
 unfit-spec =
     tie.close
     (tie.spec
+    (λ c κs. search needs)
+    (λ c κs. search needs)
     (λ c κs. search needs)
     returns
     (λ c κs. search needs)
@@ -37,4 +51,6 @@ unfit-spec =
     returns-3
     (λ c κs. search needs)
     returns-4
-    returns-5)
+    (λ c κs. search needs)
+    returns-5
+    returns-6)

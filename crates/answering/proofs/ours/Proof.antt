@@ -1,0 +1,18 @@
+-- `answering::ours` meets its contract: each return is one case of the chain.
+-- Assumes nothing.
+use mathlib.Core.Path.{refl, sym, _∙_}
+use Rattle.choice.proofs.Rules.{if-same, unless-same, same-true, same-false}
+use Rattle.answering.proofs.ours.Statement.{statement}
+use Rattle.answering.proofs.ours.Tie as tie
+
+returns : tie.Need-returns
+returns c = if-same _ (c .if1 .taken) refl
+
+returns-2 : tie.Need-returns-2
+returns-2 c = unless-same _ (c .before .if1 .left) (sym (same-true (c .if2 .taken)))
+
+returns-3 : tie.Need-returns-3
+returns-3 c = unless-same _ (c .before .if1 .left) (sym (same-false (c .if2 .left)))
+
+pub ours-spec : {M : Type 1} → statement M
+ours-spec = tie.close (tie.spec returns returns-2 returns-3)
