@@ -1,4 +1,4 @@
-/* The C functions of the crates `parts` (times and the search in the ring) and `rowcalls` (the calls on a row). Every call
+/* The C functions of the crate `test_parts`: times and the search in the ring, and the calls on a row. Every call
  * answers for every input, by a number of document 01 where it refuses, and a refused call leaves lent memory as it was.
  *
  * A row has 7 octets a place: service (3 SDA, 4 SDN, 12 SRD), destination, its access point, the source's access point

@@ -5,6 +5,13 @@ ghost use Rattle.choice.specs.Choice.{same, either};
 ghost use Rattle.state.specs.Answering.{Asked, memory, answerAs, answerTo};
 ghost use Rattle.state.specs.Answering.{answer as Answering·answer};
 ghost use Rattle.state.specs.Told.{Says};
+
+mod answers;
+mod counted;
+mod memory;
+mod news;
+mod reply;
+
 use control::Control;
 use frame::Head;
 use frame::Part;
@@ -30,8 +37,14 @@ fn answer_as<'a>(
     out: &mut [u8],
 ) -> Spoken
     requires { ⌜ Asked c k h (now high) (now low) (now out) ⌝ }
-    ensures { λ r. ⌜ Says (answerAs a c (now (points .entry)) (memory k (now (octets .entry))) fcb fcv room (now (high .entry)) (now (low .entry)) h p .memory .kept) (answerAs a c (now (points .entry)) (memory k (now (octets .entry))) fcb fcv room (now (high .entry)) (now (low .entry)) h p .events) (now (out .entry)) r (now (out .exit)) ⌝ }
-    ensures { λ _. ⌜ now (octets .exit) ≡ answerAs a c (now (points .entry)) (memory k (now (octets .entry))) fcb fcv room (now (high .entry)) (now (low .entry)) h p .memory .octets ⌝ }
+    ensures { λ r. ⌜ Says
+        (answerAs a c (now (points .entry)) (memory k (now (octets .entry))) fcb fcv room (now (high .entry))
+        (now (low .entry)) h p .memory .kept)
+        (answerAs a c (now (points .entry)) (memory k (now (octets .entry))) fcb fcv room (now (high .entry))
+        (now (low .entry)) h p .events) (now (out .entry)) r (now (out .exit)) ⌝ }
+    ensures { λ _. ⌜ now (octets .exit)
+        ≡ answerAs a c (now (points .entry)) (memory k (now (octets .entry))) fcb fcv room (now (high .entry))
+        (now (low .entry)) h p .memory .octets ⌝ }
 {
     let sda;
     match a {
@@ -82,8 +95,14 @@ fn answer_to<'a>(
     out: &mut [u8],
 ) -> Spoken
     requires { ⌜ Asked c k h (now high) (now low) (now out) ⌝ }
-    ensures { λ r. ⌜ Says (answerTo control c (now (points .entry)) (memory k (now (octets .entry))) room (now (high .entry)) (now (low .entry)) h p .memory .kept) (answerTo control c (now (points .entry)) (memory k (now (octets .entry))) room (now (high .entry)) (now (low .entry)) h p .events) (now (out .entry)) r (now (out .exit)) ⌝ }
-    ensures { λ _. ⌜ now (octets .exit) ≡ answerTo control c (now (points .entry)) (memory k (now (octets .entry))) room (now (high .entry)) (now (low .entry)) h p .memory .octets ⌝ }
+    ensures { λ r. ⌜ Says
+        (answerTo control c (now (points .entry)) (memory k (now (octets .entry))) room (now (high .entry))
+        (now (low .entry)) h p .memory .kept)
+        (answerTo control c (now (points .entry)) (memory k (now (octets .entry))) room (now (high .entry))
+        (now (low .entry)) h p .events) (now (out .entry)) r (now (out .exit)) ⌝ }
+    ensures { λ _. ⌜ now (octets .exit)
+        ≡ answerTo control c (now (points .entry)) (memory k (now (octets .entry))) room (now (high .entry))
+        (now (low .entry)) h p .memory .octets ⌝ }
 {
     match control {
         Control::Request { service, fcb, fcv } => {
@@ -134,8 +153,14 @@ pub fn answer<'a>(
     out: &mut [u8],
 ) -> Spoken
     requires { ⌜ Asked c k h (now high) (now low) (now out) ⌝ }
-    ensures { λ r. ⌜ Says (Answering·answer c (now (points .entry)) (memory k (now (octets .entry))) room (now (high .entry)) (now (low .entry)) h p .memory .kept) (Answering·answer c (now (points .entry)) (memory k (now (octets .entry))) room (now (high .entry)) (now (low .entry)) h p .events) (now (out .entry)) r (now (out .exit)) ⌝ }
-    ensures { λ _. ⌜ now (octets .exit) ≡ Answering·answer c (now (points .entry)) (memory k (now (octets .entry))) room (now (high .entry)) (now (low .entry)) h p .memory .octets ⌝ }
+    ensures { λ r. ⌜ Says
+        (Answering·answer c (now (points .entry)) (memory k (now (octets .entry))) room (now (high .entry))
+        (now (low .entry)) h p .memory .kept)
+        (Answering·answer c (now (points .entry)) (memory k (now (octets .entry))) room (now (high .entry))
+        (now (low .entry)) h p .events) (now (out .entry)) r (now (out .exit)) ⌝ }
+    ensures { λ _. ⌜ now (octets .exit)
+        ≡ Answering·answer c (now (points .entry)) (memory k (now (octets .entry))) room (now (high .entry))
+        (now (low .entry)) h p .memory .octets ⌝ }
 {
     let control = h.control;
     let destination = h.destination;

@@ -11,7 +11,7 @@ use Rattle.choice.proofs.Rules.{unless-less, less-true, less-false, pick-true, 
 use Rattle.frame.specs.Reading.{part}
 use Rattle.laid.specs.Laid.{Lays}
 use Rattle.laid.proofs.Laws.{laid-nil, laid-start, length-laid, lays-then, lays-within}
-use Rattle.line.specs.Line.{line}
+use Rattle.capture.specs.Line.{line}
 use Rattle.capture.specs.Listing.{ROOM, endShort, lengthOf, bodiesAt, last, lines, listing, listed, left}
 
 -- the lines of a whole capture

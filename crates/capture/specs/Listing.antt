@@ -4,7 +4,7 @@ use mathlib.Core.List.{List, [], _∷_, _++_}
 use lib.ListN.{length, drop}
 use Rattle.choice.specs.Choice.{pick, less}
 use Rattle.frame.specs.Reading.{octet, part}
-use Rattle.line.specs.Line.{newline, line}
+use Rattle.capture.specs.Line.{newline, line}
 
 -- "end"
 abbrev pub end : List ℕ

@@ -3,7 +3,10 @@ ghost use mathlib.Core.Path.{_≡_};
 ghost use Prim.Native.Nat.{_+_, _*_, _≤_};
 ghost use lib.ListN.{length};
 ghost use Rattle.laid.specs.Laid.{Lays};
-ghost use Rattle.capture.specs.Listing.{countOf, lengthOf, bodiesAt, last as Listing·last, endShort, lines, listed, left};
+ghost use Rattle.capture.specs.Listing.{countOf, lengthOf, bodiesAt, last as Listing·last, endShort, lines};
+ghost use Rattle.capture.specs.Listing.{listed, left};
+
+mod line;
 
 const ROOM: usize = 139274;
 
@@ -46,7 +49,8 @@ fn cut(out: &mut [u8], w: usize) -> usize
 // Lays the lines of the bodies, and the last line.
 fn bodies(s: &[u8], count: usize, out: &mut [u8]) -> usize
     requires { ⌜ (count ≤ 4096) × (bodiesAt count ≤ length (now s)) × (34 * count + 10 ≤ length (now out)) ⌝ }
-    ensures { λ r. ⌜ Lays (now (out .entry)) 0 (lines (now (s .entry)) 0 count (bodiesAt count)) (34 * count + 10) r (now (out .exit)) ⌝ }
+    ensures { λ r. ⌜ Lays (now (out .entry)) 0 (lines (now (s .entry)) 0 count (bodiesAt count)) (34 * count + 10) r
+        (now (out .exit)) ⌝ }
 {
     let mut at = 5 * count + 2;
     let mut i = 0;

@@ -6,22 +6,28 @@ ghost use lib.ListN.{length};
 ghost use Rattle.frame.specs.Reading.{read as Reading·read};
 ghost use Rattle.frame.specs.Format.{written, left};
 ghost use Rattle.state.specs.World.{rows, worldOf};
-ghost use Rattle.state.specs.Calls.{start as Calls·start, reset as Calls·reset, submit as Calls·submit, collect as Calls·collect, frame as Calls·frame, sent as Calls·sent, slot as Calls·slot};
+ghost use Rattle.state.specs.Calls.{start as Calls·start, reset as Calls·reset, submit as Calls·submit};
+ghost use Rattle.state.specs.Calls.{collect as Calls·collect, frame as Calls·frame, sent as Calls·sent};
+ghost use Rattle.state.specs.Calls.{slot as Calls·slot};
 ghost use Rattle.state.specs.Told.{lent, worldIn, startedOf, resetOf, standing};
-ghost use Rattle.board.specs.Board.{coreIn, keptIn};
-ghost use Rattle.handover.specs.Handover.{settingsFrom, stateIn, requestFrom, roomOf, holding, filled, starting, held, resetting, lodged, submitting, collecting};
+ghost use Rattle.c_core.specs.Board.{coreIn, keptIn};
+ghost use Rattle.c_core.specs.Handover.{settingsFrom, stateIn, requestFrom, roomOf, holding, filled, starting, held};
+ghost use Rattle.c_core.specs.Handover.{resetting, lodged, submitting, collecting};
 ghost use Rattle.capture.specs.Listing.{listed, left as Listing·left};
-ghost use Rattle.flat.specs.Flat.{tokenFrom, flat as Flat·flat, flatWritten, writes, leaves};
-use board::Numbers;
-use flat::FlatFrame;
-use flat::FlatWritten;
+ghost use Rattle.c_frames.specs.Flat.{tokenFrom, flat as Flat·flat, flatWritten, writes, leaves};
+use c_calls::queues;
+use c_calls::turns;
+use c_core::handover;
+use c_core::handover::FlatAccepted;
+use c_core::handover::FlatAnswer;
+use c_core::handover::FlatCollected;
+use c_core::handover::FlatRenewed;
+use c_core::handover::FlatSettings;
+use c_core::numbers::Numbers;
+use c_frames::FlatFrame;
+use c_frames::FlatWritten;
 use frame::Address;
 use frame::Fields;
-use handover::FlatAccepted;
-use handover::FlatAnswer;
-use handover::FlatCollected;
-use handover::FlatRenewed;
-use handover::FlatSettings;
 use state::Priority;
 
 // Reads a frame.
@@ -29,7 +35,7 @@ use state::Priority;
 pub extern "C" fn cihlomet_read(octets: &[u8]) -> FlatFrame
     ensures { λ r. ⌜ r ≡ Flat·flat (Reading·read (now (octets .entry))) ⌝ }
 {
-    flat::reading(octets)
+    c_frames::reading(octets)
 }
 
 // Writes a frame with a control octet.
@@ -44,9 +50,10 @@ pub extern "C" fn cihlomet_write(
     out: &mut [u8],
 ) -> FlatWritten
     ensures { λ r. ⌜ r ≡ writes destination to source from control (now («data» .entry)) (now (out .entry)) ⌝ }
-    ensures { λ _. ⌜ now (out .exit) ≡ leaves destination to source from control (now («data» .entry)) (now (out .entry)) ⌝ }
+    ensures { λ _. ⌜ now (out .exit)
+        ≡ leaves destination to source from control (now («data» .entry)) (now (out .entry)) ⌝ }
 {
-    flat::writing(destination, to, source, from, control, data, out)
+    c_frames::writing(destination, to, source, from, control, data, out)
 }
 
 // Writes a token.
@@ -55,7 +62,7 @@ pub extern "C" fn cihlomet_token(destination: u8, source: u8, out: &mut [u8]) ->
     ensures { λ r. ⌜ r ≡ flatWritten (written (tokenFrom destination source) [] (now (out .entry))) ⌝ }
     ensures { λ _. ⌜ now (out .exit) ≡ left (tokenFrom destination source) [] (now (out .entry)) ⌝ }
 {
-    flat::written(write::write_token(Address(destination), Address(source), out))
+    c_frames::written(write::write_token(Address(destination), Address(source), out))
 }
 
 // Writes a short acknowledgement.
@@ -64,7 +71,7 @@ pub extern "C" fn cihlomet_short(out: &mut [u8]) -> FlatWritten
     ensures { λ r. ⌜ r ≡ flatWritten (written Fields.Short [] (now (out .entry))) ⌝ }
     ensures { λ _. ⌜ now (out .exit) ≡ left Fields.Short [] (now (out .entry)) ⌝ }
 {
-    flat::written(write::write_short(out))
+    c_frames::written(write::write_short(out))
 }
 
 // Lists a capture. The least output is 139274 octets: to a shorter one the answer is 0.
@@ -89,9 +96,14 @@ pub extern "C" fn cihlomet_start(
     high: usize,
     low: usize,
 ) -> FlatRenewed
-    ensures { λ r. ⌜ filled r (now (masters .entry)) (now (started .exit)) (now (marks .exit)) (now (points .entry)) (now (memory .exit)) ≡ starting (startedOf (Calls·start (settingsFrom settings) ts (now (masters .entry)) (now (points .entry)) high low)) (now (masters .entry)) (now (started .entry)) (now (marks .entry)) (now (points .entry)) (now (memory .entry)) ⌝ }
+    ensures { λ r. ⌜ filled r (now (masters .entry)) (now (started .exit)) (now (marks .exit)) (now (points .entry))
+        (now (memory .exit))
+        ≡ starting
+        (startedOf (Calls·start (settingsFrom settings) ts (now (masters .entry)) (now (points .entry)) high low))
+        (now (masters .entry)) (now (started .entry)) (now (marks .entry)) (now (points .entry))
+        (now (memory .entry)) ⌝ }
 {
-    lending::start(
+    queues::start(
         settings,
         ts,
         masters,
@@ -118,9 +130,19 @@ pub extern "C" fn cihlomet_reset(
     low: &mut [u8],
     larea: &mut [u8],
 ) -> FlatRenewed
-    ensures { λ r. ⌜ held r (now (masters .exit)) (now (started .entry)) (now (marks .exit)) (now (points .entry)) (now (memory .entry)) (rows (now (high .exit)) (now (harea .exit))) (rows (now (low .exit)) (now (larea .exit))) [] ≡ resetting n (resetOf (Calls·reset (worldOf (stateIn n (now (masters .entry)) (now (started .entry)) (now (marks .entry)) (now (points .entry)) (now (memory .entry))) (rows (now (high .entry)) (now (harea .entry))) (rows (now (low .entry)) (now (larea .entry)))))) ⌝ }
+    ensures { λ r. ⌜ held r (now (masters .exit)) (now (started .entry)) (now (marks .exit)) (now (points .entry))
+        (now (memory .entry)) (rows (now (high .exit)) (now (harea .exit)))
+        (rows (now (low .exit)) (now (larea .exit))) []
+        ≡ resetting n
+        (resetOf
+        (Calls·reset
+        (worldOf
+        (stateIn n (now (masters .entry)) (now (started .entry)) (now (marks .entry))
+        (now (points .entry)) (now (memory .entry)))
+        (rows (now (high .entry)) (now (harea .entry)))
+        (rows (now (low .entry)) (now (larea .entry)))))) ⌝ }
 {
-    lending::reset(
+    queues::reset(
         n,
         masters,
         started,
@@ -151,10 +173,16 @@ pub extern "C" fn cihlomet_submit_high(
     row: &mut [u8],
     area: &mut [u8],
 ) -> FlatAccepted
-    ensures { λ a. ⌜ lodged a (now (masters .entry)) (now (started .entry)) (now (marks .entry)) (now (points .entry)) (now (memory .entry)) (now (row .exit)) (now (area .exit)) ≡ submitting n Priority.High (Calls·submit Priority.High (requestFrom service destination to from) (now («data» .entry)) (lent Priority.High (stateIn n (now (masters .entry)) (now (started .entry)) (now (marks .entry)) (now (points .entry)) (now (memory .entry))) (rows (now (row .entry)) (now (area .entry))))) ⌝ }
+    ensures { λ a. ⌜ lodged a (now (masters .entry)) (now (started .entry)) (now (marks .entry)) (now (points .entry))
+        (now (memory .entry)) (now (row .exit)) (now (area .exit))
+        ≡ submitting n Priority.High
+        (Calls·submit Priority.High (requestFrom service destination to from) (now («data» .entry))
+        (lent Priority.High
+        (stateIn n (now (masters .entry)) (now (started .entry)) (now (marks .entry)) (now (points .entry))
+        (now (memory .entry))) (rows (now (row .entry)) (now (area .entry))))) ⌝ }
 {
     let r = handover::request_from(service, destination, to, from);
-    lending::submit(
+    queues::submit(
         Priority::High,
         n,
         masters,
@@ -186,10 +214,16 @@ pub extern "C" fn cihlomet_submit_low(
     row: &mut [u8],
     area: &mut [u8],
 ) -> FlatAccepted
-    ensures { λ a. ⌜ lodged a (now (masters .entry)) (now (started .entry)) (now (marks .entry)) (now (points .entry)) (now (memory .entry)) (now (row .exit)) (now (area .exit)) ≡ submitting n Priority.Low (Calls·submit Priority.Low (requestFrom service destination to from) (now («data» .entry)) (lent Priority.Low (stateIn n (now (masters .entry)) (now (started .entry)) (now (marks .entry)) (now (points .entry)) (now (memory .entry))) (rows (now (row .entry)) (now (area .entry))))) ⌝ }
+    ensures { λ a. ⌜ lodged a (now (masters .entry)) (now (started .entry)) (now (marks .entry)) (now (points .entry))
+        (now (memory .entry)) (now (row .exit)) (now (area .exit))
+        ≡ submitting n Priority.Low
+        (Calls·submit Priority.Low (requestFrom service destination to from) (now («data» .entry))
+        (lent Priority.Low
+        (stateIn n (now (masters .entry)) (now (started .entry)) (now (marks .entry)) (now (points .entry))
+        (now (memory .entry))) (rows (now (row .entry)) (now (area .entry))))) ⌝ }
 {
     let r = handover::request_from(service, destination, to, from);
-    lending::submit(
+    queues::submit(
         Priority::Low,
         n,
         masters,
@@ -216,9 +250,15 @@ pub extern "C" fn cihlomet_collect_high(
     row: &[u8],
     area: &[u8],
 ) -> FlatCollected
-    ensures { λ a. ⌜ lodged a (now (masters .entry)) (now (started .entry)) (now (marks .entry)) (now (points .entry)) (now (memory .entry)) (now (row .entry)) (now (area .entry)) ≡ collecting n Priority.High (Calls·collect Priority.High (lent Priority.High (stateIn n (now (masters .entry)) (now (started .entry)) (now (marks .entry)) (now (points .entry)) (now (memory .entry))) (rows (now (row .entry)) (now (area .entry))))) ⌝ }
+    ensures { λ a. ⌜ lodged a (now (masters .entry)) (now (started .entry)) (now (marks .entry)) (now (points .entry))
+        (now (memory .entry)) (now (row .entry)) (now (area .entry))
+        ≡ collecting n Priority.High
+        (Calls·collect Priority.High
+        (lent Priority.High
+        (stateIn n (now (masters .entry)) (now (started .entry)) (now (marks .entry)) (now (points .entry))
+        (now (memory .entry))) (rows (now (row .entry)) (now (area .entry))))) ⌝ }
 {
-    lending::collect(
+    queues::collect(
         Priority::High,
         n,
         masters,
@@ -243,9 +283,15 @@ pub extern "C" fn cihlomet_collect_low(
     row: &[u8],
     area: &[u8],
 ) -> FlatCollected
-    ensures { λ a. ⌜ lodged a (now (masters .entry)) (now (started .entry)) (now (marks .entry)) (now (points .entry)) (now (memory .entry)) (now (row .entry)) (now (area .entry)) ≡ collecting n Priority.Low (Calls·collect Priority.Low (lent Priority.Low (stateIn n (now (masters .entry)) (now (started .entry)) (now (marks .entry)) (now (points .entry)) (now (memory .entry))) (rows (now (row .entry)) (now (area .entry))))) ⌝ }
+    ensures { λ a. ⌜ lodged a (now (masters .entry)) (now (started .entry)) (now (marks .entry)) (now (points .entry))
+        (now (memory .entry)) (now (row .entry)) (now (area .entry))
+        ≡ collecting n Priority.Low
+        (Calls·collect Priority.Low
+        (lent Priority.Low
+        (stateIn n (now (masters .entry)) (now (started .entry)) (now (marks .entry)) (now (points .entry))
+        (now (memory .entry))) (rows (now (row .entry)) (now (area .entry))))) ⌝ }
 {
-    lending::collect(
+    queues::collect(
         Priority::Low,
         n,
         masters,
@@ -278,9 +324,18 @@ pub extern "C" fn cihlomet_hear<'a>(
     larea: &mut [u8],
     out: &mut [u8],
 ) -> FlatAnswer
-    ensures { λ r. ⌜ held r (now (masters .exit)) (now (started .entry)) (now (marks .exit)) (now (points .entry)) (now (memory .exit)) (rows (now (high .exit)) (now (harea .exit))) (rows (now (low .exit)) (now (larea .exit))) (now (out .exit)) ≡ holding n (standing (Calls·frame clock (roomOf room) (now (first .entry)) (now (second .entry)) (now (octets .entry)) (length (now (out .entry))) (worldIn (coreIn n) (keptIn n) (now (masters .entry)) (now (started .entry)) (now (marks .entry)) (now (points .entry)) (now (memory .entry)) (rows (now (high .entry)) (now (harea .entry))) (rows (now (low .entry)) (now (larea .entry))))) (now (out .entry))) ⌝ }
+    ensures { λ r. ⌜ held r (now (masters .exit)) (now (started .entry)) (now (marks .exit)) (now (points .entry))
+        (now (memory .exit)) (rows (now (high .exit)) (now (harea .exit)))
+        (rows (now (low .exit)) (now (larea .exit))) (now (out .exit))
+        ≡ holding n
+        (standing
+        (Calls·frame clock (roomOf room) (now (first .entry)) (now (second .entry)) (now (octets .entry))
+        (length (now (out .entry)))
+        (worldIn (coreIn n) (keptIn n) (now (masters .entry)) (now (started .entry)) (now (marks .entry))
+        (now (points .entry)) (now (memory .entry)) (rows (now (high .entry)) (now (harea .entry)))
+        (rows (now (low .entry)) (now (larea .entry))))) (now (out .entry))) ⌝ }
 {
-    heeding::hear(
+    turns::hear(
         n,
         masters,
         started,
@@ -316,9 +371,17 @@ pub extern "C" fn cihlomet_sent(
     larea: &mut [u8],
     out: &mut [u8],
 ) -> FlatAnswer
-    ensures { λ r. ⌜ held r (now (masters .entry)) (now (started .entry)) (now (marks .exit)) (now (points .entry)) (now (memory .entry)) (rows (now (high .exit)) (now (harea .exit))) (rows (now (low .exit)) (now (larea .exit))) (now (out .exit)) ≡ holding n (standing (Calls·sent clock (length (now (out .entry))) (worldIn (coreIn n) (keptIn n) (now (masters .entry)) (now (started .entry)) (now (marks .entry)) (now (points .entry)) (now (memory .entry)) (rows (now (high .entry)) (now (harea .entry))) (rows (now (low .entry)) (now (larea .entry))))) (now (out .entry))) ⌝ }
+    ensures { λ r. ⌜ held r (now (masters .entry)) (now (started .entry)) (now (marks .exit)) (now (points .entry))
+        (now (memory .entry)) (rows (now (high .exit)) (now (harea .exit)))
+        (rows (now (low .exit)) (now (larea .exit))) (now (out .exit))
+        ≡ holding n
+        (standing
+        (Calls·sent clock (length (now (out .entry)))
+        (worldIn (coreIn n) (keptIn n) (now (masters .entry)) (now (started .entry)) (now (marks .entry))
+        (now (points .entry)) (now (memory .entry)) (rows (now (high .entry)) (now (harea .entry)))
+        (rows (now (low .entry)) (now (larea .entry))))) (now (out .entry))) ⌝ }
 {
-    heeding::sent(
+    turns::sent(
         n,
         masters,
         started,
@@ -350,9 +413,17 @@ pub extern "C" fn cihlomet_slot(
     larea: &mut [u8],
     out: &mut [u8],
 ) -> FlatAnswer
-    ensures { λ r. ⌜ held r (now (masters .exit)) (now (started .entry)) (now (marks .exit)) (now (points .entry)) (now (memory .entry)) (rows (now (high .exit)) (now (harea .exit))) (rows (now (low .exit)) (now (larea .exit))) (now (out .exit)) ≡ holding n (standing (Calls·slot clock (length (now (out .entry))) (worldIn (coreIn n) (keptIn n) (now (masters .entry)) (now (started .entry)) (now (marks .entry)) (now (points .entry)) (now (memory .entry)) (rows (now (high .entry)) (now (harea .entry))) (rows (now (low .entry)) (now (larea .entry))))) (now (out .entry))) ⌝ }
+    ensures { λ r. ⌜ held r (now (masters .exit)) (now (started .entry)) (now (marks .exit)) (now (points .entry))
+        (now (memory .entry)) (rows (now (high .exit)) (now (harea .exit)))
+        (rows (now (low .exit)) (now (larea .exit))) (now (out .exit))
+        ≡ holding n
+        (standing
+        (Calls·slot clock (length (now (out .entry)))
+        (worldIn (coreIn n) (keptIn n) (now (masters .entry)) (now (started .entry)) (now (marks .entry))
+        (now (points .entry)) (now (memory .entry)) (rows (now (high .entry)) (now (harea .entry)))
+        (rows (now (low .entry)) (now (larea .entry))))) (now (out .entry))) ⌝ }
 {
-    heeding::slot(
+    turns::slot(
         n,
         masters,
         started,

@@ -10,6 +10,7 @@ ghost use Rattle.state.specs.Hold.{ended, retry as Hold·retry, givenUp, conclu
 ghost use Rattle.state.specs.Refusals.{Lawful, Sited};
 ghost use Rattle.state.specs.Told.{Closes, Does};
 use clock::BitTime;
+use serve::exchange;
 use state::Core;
 use state::Moved;
 use state::Outcome;
@@ -26,9 +27,14 @@ fn close_in(
     row: &mut [u8],
     area: &mut [u8],
 ) -> Core
-    requires { ⌜ (Lawful c) × ((Lent (queueOf p c) (now row) (now area)) × ((0 < queueOf p c .unconfirmed) × (length (now x) ≤ 246))) ⌝ }
-    ensures { λ r. ⌜ left r (now (row .exit)) (now (area .exit)) ≡ (let l = Rows·confirm (queueOf p c) (statusOf o) (c .doing .sendings) (now (x .entry)) (now (row .entry)) (now (area .entry)) in left (withQueue p (l .answer) c) (l .row) (l .area)) ⌝ }
-    ensures { λ _. ⌜ now (marks .exit) ≡ marksAfter o (recordIn (queueOf p c) (rows (now (row .entry)) (now (area .entry))) .destination .0) (now (marks .entry)) ⌝ }
+    requires { ⌜ (Lawful c)
+        × ((Lent (queueOf p c) (now row) (now area)) × ((0 < queueOf p c .unconfirmed) × (length (now x) ≤ 246))) ⌝ }
+    ensures { λ r. ⌜ left r (now (row .exit)) (now (area .exit))
+        ≡ (let l = Rows·confirm (queueOf p c) (statusOf o) (c .doing .sendings) (now (x .entry)) (now (row .entry))
+        (now (area .entry)) in left (withQueue p (l .answer) c) (l .row) (l .area)) ⌝ }
+    ensures { λ _. ⌜ now (marks .exit)
+        ≡ marksAfter o (recordIn (queueOf p c) (rows (now (row .entry)) (now (area .entry))) .destination .0)
+        (now (marks .entry)) ⌝ }
 {
     let q = acts::queue_of(p, c);
     let doing = c.doing;
@@ -50,8 +56,11 @@ fn close(
     low: &mut [u8],
     larea: &mut [u8],
 ) -> Core
-    requires { ⌜ (Sited c (rows (now high) (now harea)) (rows (now low) (now larea))) × ((0 < queueOf (c .doing .served) c .unconfirmed) × (length (now x) ≤ 246)) ⌝ }
-    ensures { λ r. ⌜ Closes o (now (x .entry)) c (now (marks .entry)) (rows (now (high .entry)) (now (harea .entry))) (rows (now (low .entry)) (now (larea .entry))) r (now (marks .exit)) (rows (now (high .exit)) (now (harea .exit))) (rows (now (low .exit)) (now (larea .exit))) ⌝ }
+    requires { ⌜ (Sited c (rows (now high) (now harea)) (rows (now low) (now larea)))
+        × ((0 < queueOf (c .doing .served) c .unconfirmed) × (length (now x) ≤ 246)) ⌝ }
+    ensures { λ r. ⌜ Closes o (now (x .entry)) c (now (marks .entry)) (rows (now (high .entry)) (now (harea .entry)))
+        (rows (now (low .entry)) (now (larea .entry))) r (now (marks .exit))
+        (rows (now (high .exit)) (now (harea .exit))) (rows (now (low .exit)) (now (larea .exit))) ⌝ }
 {
     let doing = c.doing;
     let served = doing.served;
@@ -75,8 +84,14 @@ pub fn finish(
     larea: &mut [u8],
     out: &mut [u8],
 ) -> Moved
-    requires { ⌜ (Sited c (rows (now high) (now harea)) (rows (now low) (now larea))) × ((0 < queueOf (c .doing .served) c .unconfirmed) × ((length (now x) ≤ 246) × (255 ≤ length (now out)))) ⌝ }
-    ensures { λ r. ⌜ Does (ended o (now (x .entry)) (clock .0) (siteOf c (now (masters .entry)) (now (marks .entry)) (rows (now (high .entry)) (now (harea .entry))) (rows (now (low .entry)) (now (larea .entry))))) (now (out .entry)) r (now (masters .entry)) (now (marks .exit)) (rows (now (high .exit)) (now (harea .exit))) (rows (now (low .exit)) (now (larea .exit))) (now (out .exit)) ⌝ }
+    requires { ⌜ (Sited c (rows (now high) (now harea)) (rows (now low) (now larea)))
+        × ((0 < queueOf (c .doing .served) c .unconfirmed) × ((length (now x) ≤ 246) × (255 ≤ length (now out)))) ⌝ }
+    ensures { λ r. ⌜ Does
+        (ended o (now (x .entry)) (clock .0)
+        (siteOf c (now (masters .entry)) (now (marks .entry)) (rows (now (high .entry)) (now (harea .entry)))
+        (rows (now (low .entry)) (now (larea .entry))))) (now (out .entry)) r (now (masters .entry))
+        (now (marks .exit)) (rows (now (high .exit)) (now (harea .exit))) (rows (now (low .exit)) (now (larea .exit)))
+        (now (out .exit)) ⌝ }
 {
     let core = close(o, x, c, marks, high, harea, low, larea);
     serve::choose(
@@ -105,8 +120,14 @@ pub fn retry(
     larea: &mut [u8],
     out: &mut [u8],
 ) -> Moved
-    requires { ⌜ (Sited c (rows (now high) (now harea)) (rows (now low) (now larea))) × ((0 < queueOf (c .doing .served) c .unconfirmed) × (255 ≤ length (now out))) ⌝ }
-    ensures { λ r. ⌜ Does (Hold·retry (clock .0) (siteOf c (now (masters .entry)) (now (marks .entry)) (rows (now (high .entry)) (now (harea .entry))) (rows (now (low .entry)) (now (larea .entry))))) (now (out .entry)) r (now (masters .entry)) (now (marks .exit)) (rows (now (high .exit)) (now (harea .exit))) (rows (now (low .exit)) (now (larea .exit))) (now (out .exit)) ⌝ }
+    requires { ⌜ (Sited c (rows (now high) (now harea)) (rows (now low) (now larea)))
+        × ((0 < queueOf (c .doing .served) c .unconfirmed) × (255 ≤ length (now out))) ⌝ }
+    ensures { λ r. ⌜ Does
+        (Hold·retry (clock .0)
+        (siteOf c (now (masters .entry)) (now (marks .entry)) (rows (now (high .entry)) (now (harea .entry)))
+        (rows (now (low .entry)) (now (larea .entry))))) (now (out .entry)) r (now (masters .entry))
+        (now (marks .exit)) (rows (now (high .exit)) (now (harea .exit))) (rows (now (low .exit)) (now (larea .exit)))
+        (now (out .exit)) ⌝ }
 {
     let settings = c.settings;
     let doing = c.doing;
@@ -139,8 +160,14 @@ fn give_up(
     larea: &mut [u8],
     out: &mut [u8],
 ) -> Moved
-    requires { ⌜ (Sited c (rows (now high) (now harea)) (rows (now low) (now larea))) × ((0 < queueOf (c .doing .served) c .unconfirmed) × (255 ≤ length (now out))) ⌝ }
-    ensures { λ r. ⌜ Does (givenUp (siteOf c (now (masters .entry)) (now (marks .entry)) (rows (now (high .entry)) (now (harea .entry))) (rows (now (low .entry)) (now (larea .entry))))) (now (out .entry)) r (now (masters .entry)) (now (marks .exit)) (rows (now (high .exit)) (now (harea .exit))) (rows (now (low .exit)) (now (larea .exit))) (now (out .exit)) ⌝ }
+    requires { ⌜ (Sited c (rows (now high) (now harea)) (rows (now low) (now larea)))
+        × ((0 < queueOf (c .doing .served) c .unconfirmed) × (255 ≤ length (now out))) ⌝ }
+    ensures { λ r. ⌜ Does
+        (givenUp
+        (siteOf c (now (masters .entry)) (now (marks .entry)) (rows (now (high .entry)) (now (harea .entry)))
+        (rows (now (low .entry)) (now (larea .entry))))) (now (out .entry)) r (now (masters .entry))
+        (now (marks .exit)) (rows (now (high .exit)) (now (harea .exit))) (rows (now (low .exit)) (now (larea .exit)))
+        (now (out .exit)) ⌝ }
 {
     let core = close(Outcome::Lost, b"", c, marks, high, harea, low, larea);
     let doing = core.doing;
@@ -165,8 +192,14 @@ pub fn conclude(
     larea: &mut [u8],
     out: &mut [u8],
 ) -> Moved
-    requires { ⌜ (Sited c (rows (now high) (now harea)) (rows (now low) (now larea))) × ((0 < queueOf (c .doing .served) c .unconfirmed) × ((length (now x) ≤ 246) × (255 ≤ length (now out)))) ⌝ }
-    ensures { λ r. ⌜ Does (concluded (clock .0) (now (x .entry)) v (siteOf c (now (masters .entry)) (now (marks .entry)) (rows (now (high .entry)) (now (harea .entry))) (rows (now (low .entry)) (now (larea .entry))))) (now (out .entry)) r (now (masters .entry)) (now (marks .exit)) (rows (now (high .exit)) (now (harea .exit))) (rows (now (low .exit)) (now (larea .exit))) (now (out .exit)) ⌝ }
+    requires { ⌜ (Sited c (rows (now high) (now harea)) (rows (now low) (now larea)))
+        × ((0 < queueOf (c .doing .served) c .unconfirmed) × ((length (now x) ≤ 246) × (255 ≤ length (now out)))) ⌝ }
+    ensures { λ r. ⌜ Does
+        (concluded (clock .0) (now (x .entry)) v
+        (siteOf c (now (masters .entry)) (now (marks .entry)) (rows (now (high .entry)) (now (harea .entry)))
+        (rows (now (low .entry)) (now (larea .entry))))) (now (out .entry)) r (now (masters .entry))
+        (now (marks .exit)) (rows (now (high .exit)) (now (harea .exit))) (rows (now (low .exit)) (now (larea .exit)))
+        (now (out .exit)) ⌝ }
 {
     match v {
         Verdict::Plausible(status) => finish(

@@ -6,14 +6,16 @@ use native.Mathlib.Omega.{arith}
 use Rattle.choice.specs.Choice.{pick, same}
 use Rattle.choice.proofs.Rules.{same-true, same-false, true-same, pick-true, pick-false}
 use Rattle.control.specs.declared.Service.{Service}
-use Rattle.control.specs.declared.Service.the-variants.{SdaLow, SdnLow, SdaHigh, SdnHigh, Status, SrdLow, SrdHigh, Ident, Lsap}
+use Rattle.control.specs.declared.Service.the-variants.{SdaLow, SdnLow, SdaHigh, SdnHigh, Status, SrdLow}
+use Rattle.control.specs.declared.Service.the-variants.{SrdHigh, Ident, Lsap}
 use Rattle.control.specs.declared.Code.{Code}
 use Rattle.control.specs.declared.Code.the-variants.{Ok, Ue, Rr, Rs, Dl, Nr, Dh, Rdl, Rdh}
 use Rattle.control.specs.declared.Kind.{Kind}
 use Rattle.control.specs.declared.Kind.the-variants.{Slave, NotReady, Ready, InRing}
 use Rattle.control.specs.declared.Control.{Control}
 use Rattle.control.specs.declared.Control.the-variants.{Request, Reply}
-use Rattle.control.specs.Control.{serviceNumber, serviceOf, codeNumber, codeOf, typeNumber, typeOf, bit, fc, controlOf, lawful, listed}
+use Rattle.control.specs.Control.{serviceNumber, serviceOf, codeNumber, codeOf, typeNumber, typeOf, bit, fc}
+use Rattle.control.specs.Control.{controlOf, lawful, listed}
 
 -- ---- each part of FC is that of its number
 service-numbered : (s : Service) → (serviceOf (serviceNumber s) ≡ s) × (serviceNumber s < 16)

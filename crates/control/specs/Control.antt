@@ -3,7 +3,8 @@ use Prim.Native.Nat.{ℕ, _+_, _*_, _/_, _%_}
 use mathlib.Core.Bool.{Bool, true, false, not}
 use Rattle.choice.specs.Choice.{pick, less, same, both, either, said}
 use Rattle.control.specs.declared.Service.{Service}
-use Rattle.control.specs.declared.Service.the-variants.{SdaLow, SdnLow, SdaHigh, SdnHigh, Status, SrdLow, SrdHigh, Ident, Lsap}
+use Rattle.control.specs.declared.Service.the-variants.{SdaLow, SdnLow, SdaHigh, SdnHigh, Status, SrdLow}
+use Rattle.control.specs.declared.Service.the-variants.{SrdHigh, Ident, Lsap}
 use Rattle.control.specs.declared.Code.{Code}
 use Rattle.control.specs.declared.Code.the-variants.{Ok, Ue, Rr, Rs, Dl, Nr, Dh, Rdl, Rdh}
 use Rattle.control.specs.declared.Kind.{Kind}

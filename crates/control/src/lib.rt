@@ -4,9 +4,12 @@ ghost use mathlib.Core.Path.{_≡_};
 ghost use Prim.Native.Nat.{_<_, _/_, _%_};
 ghost use mathlib.Core.Bool.{false};
 ghost use Rattle.choice.specs.Choice.{pick, same};
-ghost use Rattle.control.specs.Control.{serviceNumber, serviceOf, codeNumber, codeOf, typeNumber, typeOf, controlOf};
-ghost use Rattle.control.specs.Halves.{replied as Halves·replied, requested as Halves·requested, numbered as Halves·numbered};
-ghost use Rattle.control.specs.Control.{bit as Control·bit, fc as Control·fc, counted as Control·counted, lawful as Control·lawful, listed as Control·listed, sdn as Control·sdn};
+ghost use Rattle.control.specs.Control.{serviceNumber, serviceOf, codeNumber, codeOf, typeNumber, typeOf};
+ghost use Rattle.control.specs.Control.{controlOf};
+ghost use Rattle.control.specs.Halves.{replied as Halves·replied, requested as Halves·requested};
+ghost use Rattle.control.specs.Halves.{numbered as Halves·numbered};
+ghost use Rattle.control.specs.Control.{bit as Control·bit, fc as Control·fc, counted as Control·counted};
+ghost use Rattle.control.specs.Control.{lawful as Control·lawful, listed as Control·listed, sdn as Control·sdn};
 
 // What a request asks for.
 pub enum Service {

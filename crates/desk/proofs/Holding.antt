@@ -14,18 +14,18 @@ use Rattle.laid.specs.Laid.{laid, Lays}
 use Rattle.laid.proofs.Laws.{laid-nil}
 use Rattle.request.specs.Record.{SIZE}
 use Rattle.queue.specs.Queue.{AREA}
-use Rattle.places.specs.Places.{SHORT}
-use Rattle.script.specs.declared.Call.{Call}
-use Rattle.operands.specs.Operands.{numberAt, settingsOf, tsOf, mastersOf, pointsOf}
+use Rattle.typed.specs.Places.{SHORT}
+use Rattle.typed_call.specs.declared.script.Call.{Call}
+use Rattle.typed_call.specs.Operands.{numberAt, settingsOf, tsOf, mastersOf, pointsOf}
 use Rattle.times.specs.declared.Settings.{Settings}
 use Rattle.state.specs.declared.State.{State}
 use Rattle.state.specs.declared.Renewed.{Renewed}
 use Rattle.state.specs.World.{Rows, rows}
 use Rattle.state.specs.Calls.{Started, Unstarted, Station, start}
 use Rattle.state.specs.Told.{Leaves, leaves, startedOf}
-use Rattle.saying.specs.declared.Played.{Played}
-use Rattle.saying.specs.Saying.{unknownLine, plainLine, Plays, printing}
-use Rattle.saying.proofs.Lines.{laid-near}
+use Rattle.printed_lines.specs.declared.saying.Played.{Played}
+use Rattle.printed_lines.specs.Saying.{unknownLine, plainLine, Plays, printing}
+use Rattle.printed_lines.proofs.saying.Lines.{laid-near}
 use Rattle.play.specs.Play.{startBy, playedBy}
 use Rattle.desk.specs.declared.Held.{Held}
 use Rattle.desk.specs.Desk.{Arrays, Few, Answers, says, cleared, starting, started, answerOther, deskOf}

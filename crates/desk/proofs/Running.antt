@@ -8,20 +8,24 @@ use Rattle.choice.specs.Choice.{pick, same}
 use Rattle.choice.proofs.Rules.{pick-false, unrefused}
 use Rattle.request.specs.Record.{SIZE}
 use Rattle.queue.specs.Queue.{AREA}
-use Rattle.places.specs.Places.{LONG, SHORT}
-use Rattle.script.specs.declared.Call.{Call as Typed}
-use Rattle.script.specs.declared.Call.the-variants.{Unknown, Start, Submit, Frame, Sent, Slot, Reset, Collect, Show}
-use Rattle.script.specs.Script.{callOf}
-use Rattle.operands.specs.Operands.{numberAt, octetsAt, settingsOf, tsOf, mastersOf, pointsOf, queueOf, requestOf, roomOf}
+use Rattle.typed.specs.Places.{LONG, SHORT}
+use Rattle.typed_call.specs.declared.script.Call.{Call as Typed}
+use Rattle.typed_call.specs.declared.script.Call.the-variants.{Unknown, Start, Submit, Frame, Sent, Slot, Reset}
+use Rattle.typed_call.specs.declared.script.Call.the-variants.{Collect, Show}
+use Rattle.typed_call.specs.Script.{callOf}
+use Rattle.typed_call.specs.Operands.{numberAt, octetsAt, settingsOf, tsOf, mastersOf, pointsOf, queueOf, requestOf}
+use Rattle.typed_call.specs.Operands.{roomOf}
 use Rattle.state.specs.declared.State.{State}
-use Rattle.state.specs.World.{Rows, World, Called, Event, worldOf, stateOf, accepted, begins, ends, sends, confirmed, collected, indicated, resets, refused}
+use Rattle.state.specs.World.{Rows, World, Called, Event, worldOf, stateOf, accepted, begins, ends, sends, confirmed}
+use Rattle.state.specs.World.{collected, indicated, resets, refused}
 use Rattle.state.specs.Calls.{Started, Unstarted, Station}
 use Rattle.state.specs.Runs.{Call, submit, frame, sent, slot, reset, collect, call, run, Begun}
 use Rattle.state.proofs.Never.{tells}
 use Rattle.state.proofs.Start.{begun-never-29}
-use Rattle.saying.specs.Saying.{unknownLine, playing}
+use Rattle.printed_lines.specs.Saying.{unknownLine, playing}
 use Rattle.play.specs.Play.{stays, startBy, submitBy, frameBy, playedBy}
-use Rattle.desk.specs.Desk.{Desk, Answered, says, cleared, starting, started, starts, answerOther, answerBy, answer}
+use Rattle.desk.specs.Desk.{Desk, Answered, says, cleared, starting, started, starts, answerOther, answerBy}
+use Rattle.desk.specs.Desk.{answer}
 use Rattle.desk.specs.Scripts.{after, Ran}
 use Rattle.desk.specs.Scripts.Ran.{unbegun, ran}
 

@@ -9,15 +9,16 @@ use Rattle.choice.specs.Choice.{pick, less, same, said}
 use Rattle.laid.specs.Laid.{Lays}
 use Rattle.request.specs.Record.{SIZE}
 use Rattle.queue.specs.Queue.{AREA}
-use Rattle.places.specs.Places.{SHORT}
-use Rattle.script.specs.declared.Call.{Call}
-use Rattle.script.specs.declared.Call.the-variants.{Unknown, Start, Submit, Frame, Sent, Slot, Reset, Collect, Show}
-use Rattle.script.specs.Script.{callOf}
-use Rattle.operands.specs.Operands.{numberAt}
+use Rattle.typed.specs.Places.{SHORT}
+use Rattle.typed_call.specs.declared.script.Call.{Call}
+use Rattle.typed_call.specs.declared.script.Call.the-variants.{Unknown, Start, Submit, Frame, Sent, Slot, Reset}
+use Rattle.typed_call.specs.declared.script.Call.the-variants.{Collect, Show}
+use Rattle.typed_call.specs.Script.{callOf}
+use Rattle.typed_call.specs.Operands.{numberAt}
 use Rattle.state.specs.declared.State.{State}
 use Rattle.state.specs.World.{Rows, rows}
 use Rattle.state.specs.Calls.{Started, Unstarted, Station}
-use Rattle.saying.specs.Saying.{unknownLine, plainLine, Plays}
+use Rattle.printed_lines.specs.Saying.{unknownLine, plainLine, Plays}
 use Rattle.play.specs.Play.{startBy, playedBy}
 use Rattle.desk.specs.declared.Held.{Held}
 use Rattle.desk.specs.declared.Said.{Said}

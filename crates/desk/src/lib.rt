@@ -3,12 +3,16 @@
 ghost use mathlib.Core.Path.{_≡_};
 ghost use Prim.Native.Nat.{_≤_};
 ghost use lib.ListN.{length, replicate};
-ghost use Rattle.places.specs.Places.{SHORT as Places·SHORT};
-ghost use Rattle.operands.specs.Operands.{numberAt};
+ghost use Rattle.typed.specs.Places.{SHORT as Places·SHORT};
+ghost use Rattle.typed_call.specs.Operands.{numberAt};
 ghost use Rattle.play.specs.Play.{startBy};
-ghost use Rattle.desk.specs.Desk.{Arrays, Few, Answers, deskOf, starts as Desk·starts, starting, answerOther, answerBy, answer as Desk·answer};
-use script::Call;
+ghost use Rattle.desk.specs.Desk.{Arrays, Few, Answers, deskOf, starts as Desk·starts, starting, answerOther};
+ghost use Rattle.desk.specs.Desk.{answerBy, answer as Desk·answer};
+use printed_lines::saying;
 use state::State;
+use typed_call::operands;
+use typed_call::script;
+use typed_call::script::Call;
 
 const SHORT: u32 = 255;
 
@@ -52,7 +56,12 @@ fn begin(
     text: &mut [u8],
 ) -> Said
     requires { ⌜ (Arrays (now high) (now harea) (now low) (now larea) (now text)) × (Few h) ⌝ }
-    ensures { λ r. ⌜ Answers (starting (startBy (now (line .entry))) (numberAt (now (line .entry)) 11 Places·SHORT) (numberAt (now (line .entry)) 12 Places·SHORT) (deskOf h (now (high .entry)) (now (harea .entry)) (now (low .entry)) (now (larea .entry)))) (now (text .entry)) r (now (high .exit)) (now (harea .exit)) (now (low .exit)) (now (larea .exit)) (now (text .exit)) ⌝ }
+    ensures { λ r. ⌜ Answers
+        (starting (startBy (now (line .entry))) (numberAt (now (line .entry)) 11 Places·SHORT)
+        (numberAt (now (line .entry)) 12 Places·SHORT)
+        (deskOf h (now (high .entry)) (now (harea .entry)) (now (low .entry)) (now (larea .entry))))
+        (now (text .entry)) r (now (high .exit)) (now (harea .exit)) (now (low .exit)) (now (larea .exit))
+        (now (text .exit)) ⌝ }
 {
     let r = play::start(line);
     let state = r.state;
@@ -86,8 +95,13 @@ fn go_on(
     larea: &mut [u8],
     text: &mut [u8],
 ) -> Said
-    requires { ⌜ (Arrays (now high) (now harea) (now low) (now larea) (now text)) × (Few h) × (length (now line) ≤ 4096) ⌝ }
-    ensures { λ r. ⌜ Answers (answerOther call (now (line .entry)) (deskOf h (now (high .entry)) (now (harea .entry)) (now (low .entry)) (now (larea .entry)))) (now (text .entry)) r (now (high .exit)) (now (harea .exit)) (now (low .exit)) (now (larea .exit)) (now (text .exit)) ⌝ }
+    requires { ⌜ (Arrays (now high) (now harea) (now low) (now larea) (now text))
+        × (Few h) × (length (now line) ≤ 4096) ⌝ }
+    ensures { λ r. ⌜ Answers
+        (answerOther call (now (line .entry))
+        (deskOf h (now (high .entry)) (now (harea .entry)) (now (low .entry)) (now (larea .entry))))
+        (now (text .entry)) r (now (high .exit)) (now (harea .exit)) (now (low .exit)) (now (larea .exit))
+        (now (text .exit)) ⌝ }
 {
     let n = h.high;
     let m = h.low;
@@ -148,8 +162,13 @@ fn answer_by(
     larea: &mut [u8],
     text: &mut [u8],
 ) -> Said
-    requires { ⌜ (Arrays (now high) (now harea) (now low) (now larea) (now text)) × (Few h) × (length (now line) ≤ 4096) ⌝ }
-    ensures { λ r. ⌜ Answers (answerBy call (now (line .entry)) (deskOf h (now (high .entry)) (now (harea .entry)) (now (low .entry)) (now (larea .entry)))) (now (text .entry)) r (now (high .exit)) (now (harea .exit)) (now (low .exit)) (now (larea .exit)) (now (text .exit)) ⌝ }
+    requires { ⌜ (Arrays (now high) (now harea) (now low) (now larea) (now text))
+        × (Few h) × (length (now line) ≤ 4096) ⌝ }
+    ensures { λ r. ⌜ Answers
+        (answerBy call (now (line .entry))
+        (deskOf h (now (high .entry)) (now (harea .entry)) (now (low .entry)) (now (larea .entry))))
+        (now (text .entry)) r (now (high .exit)) (now (harea .exit)) (now (low .exit)) (now (larea .exit))
+        (now (text .exit)) ⌝ }
 {
     if starts(call) {
         return begin(h, line, high, harea, low, larea, text);
@@ -168,7 +187,11 @@ pub fn answer(
     text: &mut [u8],
 ) -> Said
     requires { ⌜ (Arrays (now high) (now harea) (now low) (now larea) (now text)) × (Few h) ⌝ }
-    ensures { λ r. ⌜ Answers (Desk·answer (now (line .entry)) (deskOf h (now (high .entry)) (now (harea .entry)) (now (low .entry)) (now (larea .entry)))) (now (text .entry)) r (now (high .exit)) (now (harea .exit)) (now (low .exit)) (now (larea .exit)) (now (text .exit)) ⌝ }
+    ensures { λ r. ⌜ Answers
+        (Desk·answer (now (line .entry))
+        (deskOf h (now (high .entry)) (now (harea .entry)) (now (low .entry)) (now (larea .entry))))
+        (now (text .entry)) r (now (high .exit)) (now (harea .exit)) (now (low .exit)) (now (larea .exit))
+        (now (text .exit)) ⌝ }
 {
     if line.len() == 0 {
         return Said { held: h, length: 0 };

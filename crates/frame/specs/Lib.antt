@@ -1,2 +1,3 @@
+pub mod Access
 pub mod Format
 pub mod Reading

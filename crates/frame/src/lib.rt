@@ -2,6 +2,7 @@
 // writing are left to the crates above. Assumes nothing.
 ghost use mathlib.Core.Path.{_≡_};
 ghost use Prim.Native.Nat.{_≤_};
+ghost use Rattle.frame.specs.Access.{accessOf, pointOf};
 ghost use Rattle.frame.specs.Format.{fcs as Format·fcs, misdirected as Format·misdirected};
 use control::Control;
 
@@ -16,6 +17,9 @@ pub enum Access {
     None,
     At(Point),
 }
+
+// The number that stands for no access point, where one number stands for a point or for none.
+pub const NONE: u8 = 255;
 
 // The fields of a frame that has a control octet, but for its data.
 pub struct Head {
@@ -85,4 +89,23 @@ pub fn fcs(body: &[u8]) -> u8
         i += 1;
     }
     sum
+}
+
+// The access point of a number, and the number of an access point.
+pub fn access_of(p: Point) -> Access
+    ensures { λ r. ⌜ r ≡ accessOf (p .0) ⌝ }
+{
+    if p.0 == NONE {
+        return Access::None;
+    }
+    Access::At(p)
+}
+
+pub fn point_of(a: Access) -> u8
+    ensures { λ r. ⌜ r ≡ pointOf a ⌝ }
+{
+    match a {
+        Access::None => NONE,
+        Access::At(p) => p.0,
+    }
 }

@@ -1,106 +1,19 @@
-// What a frame does in Idle: a token is taken, a request is answered, and anything else is ignored. Assumes nothing.
-ghost use mathlib.Core.Path.{_≡_};
-ghost use Rattle.frame.specs.Reading.{read as Reading·read};
+// What a frame does in each phase. Assumes nothing.
 ghost use Rattle.state.specs.World.{rows};
-ghost use Rattle.state.specs.Calls.{idle as Calls·idle, idleRead};
-ghost use Rattle.hearing.specs.Hears.{Hears, Listening, Sound};
+ghost use Rattle.state.specs.Calls.{heard};
+ghost use Rattle.phases.specs.Underway.{Underway};
+ghost use Rattle.hearing.specs.Hears.{Hears, Listening};
+
+pub mod idle;
+
 use clock::BitTime;
-use frame::Answer;
-use frame::Fields;
-use frame::Part;
 use state::Core;
 use state::Heard;
-use state::Indication;
 use state::Kept;
-use state::Moved;
-use state::Spoken;
+use state::Phase;
 
-// What an act on the site leaves, as what was heard.
-pub fn moved(m: Moved, kept: Kept) -> Heard
-    ensures { λ r. ⌜ r ≡ record { refused = 0; core = m .core; kept = kept; length = m .length; wait = m .wait; indication = Indication.None } ⌝ }
-{
-    let core = m.core;
-    let wait = m.wait;
-    Heard {
-        refused: 0,
-        core,
-        kept,
-        length: m.length,
-        wait,
-        indication: Indication::None,
-    }
-}
-
-// What is answered to a request, as what was heard.
-fn spoken(core: Core, s: Spoken) -> Heard
-    ensures { λ r. ⌜ r ≡ record { refused = 0; core = core; kept = s .kept; length = s .length; wait = s .wait; indication = s .indication } ⌝ }
-{
-    let kept = s.kept;
-    let wait = s.wait;
-    let indication = s.indication;
-    Heard {
-        refused: 0,
-        core,
-        kept,
-        length: s.length,
-        wait,
-        indication,
-    }
-}
-
-// A good frame in Idle.
-fn idle<'a>(
-    clock: BitTime,
-    room: bool,
-    first: &'a [u8],
-    second: &'a [u8],
-    f: Fields,
-    p: Part,
-    c: Core,
-    k: Kept,
-    masters: &mut [u8; 127],
-    marks: &[u8; 127],
-    points: &[u8; 64],
-    octets: &mut [u8; 255],
-    high: &[u8],
-    harea: &[u8],
-    low: &[u8],
-    larea: &[u8],
-    out: &mut [u8],
-) -> Heard
-    requires { ⌜ (Sound f) × (Listening c k (rows (now high) (now harea)) (rows (now low) (now larea)) (now first) (now second) (now out)) ⌝ }
-    ensures { λ r. ⌜ Hears (Calls·idle (clock .0) room (now (first .entry)) (now (second .entry)) f p) c k (now (masters .entry)) (now (marks .entry)) (now (points .entry)) (now (octets .entry)) (rows (now (high .entry)) (now (harea .entry))) (rows (now (low .entry)) (now (larea .entry))) (now (out .entry)) r (now (masters .exit)) (now (marks .entry)) (now (octets .exit)) (rows (now (high .entry)) (now (harea .entry))) (rows (now (low .entry)) (now (larea .entry))) (now (out .exit)) ⌝ }
-{
-    match f {
-        Fields::Token {
-            destination,
-            source,
-        } => {
-            let m = tokens::token(
-                clock,
-                destination,
-                source,
-                c,
-                masters,
-                marks,
-                high,
-                harea,
-                low,
-                larea,
-                out,
-            );
-            moved(m, k)
-        }
-        Fields::Short => moved(tokens::quiet(c), k),
-        Fields::Frame(h) => spoken(
-            c,
-            answering::answer(c, points, k, octets, room, first, second, h, p, out),
-        ),
-    }
-}
-
-// A frame in Idle.
-pub fn idle_read<'a>(
+// A frame, by the phase.
+pub fn hear<'a>(
     clock: BitTime,
     room: bool,
     first: &'a [u8],
@@ -109,38 +22,63 @@ pub fn idle_read<'a>(
     c: Core,
     k: Kept,
     masters: &mut [u8; 127],
-    marks: &[u8; 127],
+    marks: &mut [u8; 127],
     points: &[u8; 64],
     octets: &mut [u8; 255],
-    high: &[u8],
-    harea: &[u8],
-    low: &[u8],
-    larea: &[u8],
+    high: &mut [u8],
+    harea: &mut [u8],
+    low: &mut [u8],
+    larea: &mut [u8],
     out: &mut [u8],
 ) -> Heard
-    requires { ⌜ Listening c k (rows (now high) (now harea)) (rows (now low) (now larea)) (now first) (now second) (now out) ⌝ }
-    ensures { λ r. ⌜ Hears (idleRead (clock .0) room (now (first .entry)) (now (second .entry)) (Reading·read (now (s .entry)))) c k (now (masters .entry)) (now (marks .entry)) (now (points .entry)) (now (octets .entry)) (rows (now (high .entry)) (now (harea .entry))) (rows (now (low .entry)) (now (larea .entry))) (now (out .entry)) r (now (masters .exit)) (now (marks .entry)) (now (octets .exit)) (rows (now (high .entry)) (now (harea .entry))) (rows (now (low .entry)) (now (larea .entry))) (now (out .exit)) ⌝ }
+    requires { ⌜ (Listening c k (rows (now high) (now harea)) (rows (now low) (now larea)) (now first) (now second)
+        (now out))
+        × (Underway c) ⌝ }
+    ensures { λ r. ⌜ Hears
+        (heard (c .doing .phase) (clock .0) room (now (first .entry)) (now (second .entry)) (now (s .entry))) c k
+        (now (masters .entry)) (now (marks .entry)) (now (points .entry)) (now (octets .entry))
+        (rows (now (high .entry)) (now (harea .entry))) (rows (now (low .entry)) (now (larea .entry)))
+        (now (out .entry)) r (now (masters .exit)) (now (marks .exit)) (now (octets .exit))
+        (rows (now (high .exit)) (now (harea .exit))) (rows (now (low .exit)) (now (larea .exit)))
+        (now (out .exit)) ⌝ }
 {
-    match read::read(s) {
-        Answer::Refused(_) => moved(tokens::quiet(c), k),
-        Answer::Read(f, p) => idle(
-            clock,
-            room,
-            first,
-            second,
-            f,
-            p,
-            c,
-            k,
-            masters,
-            marks,
-            points,
-            octets,
-            high,
-            harea,
-            low,
-            larea,
-            out,
-        ),
+    let doing = c.doing;
+    let phase = doing.phase;
+    let core;
+    match phase {
+        Phase::Idle => {
+            core = c;
+        }
+        Phase::Awaited => {
+            let m = phases::awaited(clock, s, c, masters, marks, high, harea, low, larea, out);
+            return idle::moved(m, k);
+        }
+        Phase::Sdn => {
+            return idle::moved(tokens::quiet(c), k);
+        }
+        Phase::Check => {
+            core = acts::with_doing(acts::resting(doing), c);
+        }
+        Phase::ToSelf => {
+            return idle::moved(tokens::quiet(c), k);
+        }
     }
+    idle::idle_read(
+        clock,
+        room,
+        first,
+        second,
+        s,
+        core,
+        k,
+        masters,
+        marks,
+        points,
+        octets,
+        high,
+        harea,
+        low,
+        larea,
+        out,
+    )
 }

@@ -5,7 +5,8 @@ use mathlib.Core.Path.{_≡_, sym, ap, _∙_}
 use mathlib.Core.List.{List, _++_}
 use native.Mathlib.Omega.{arith}
 use lib.ListN.{length, take, drop, getD, length-drop, take-append-drop, List·getD-append}
-use lib.Seq.{length-take-le, drop-at, drop-drop, take-append-seam, take-append-le, drop-append-le, getD-take, getD-drop, getD-append-add}
+use lib.Seq.{length-take-le, drop-at, drop-drop, take-append-seam, take-append-le, drop-append-le, getD-take}
+use lib.Seq.{getD-drop, getD-append-add}
 use Rattle.laid.specs.Laid.{laid}
 use Rattle.laid.proofs.Laws.{drop-laid}
 

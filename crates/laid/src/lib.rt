@@ -7,7 +7,8 @@ ghost use Rattle.laid.specs.Laid.{Lays};
 // Lays a piece from a place on, and gives the place behind it.
 pub fn lay(piece: &[u8], out: &mut [u8], at: usize) -> usize
     requires { ⌜ at + length (now piece) ≤ length (now out) ⌝ }
-    ensures { λ r. ⌜ Lays (now (out .entry)) at (now (piece .entry)) (length (now (piece .entry))) r (now (out .exit)) ⌝ }
+    ensures { λ r. ⌜ Lays (now (out .entry)) at (now (piece .entry)) (length (now (piece .entry))) r
+        (now (out .exit)) ⌝ }
 {
     bytes::copy(piece, &mut out[at..]);
     at + piece.len()

@@ -12,9 +12,9 @@ use Rattle.frame.specs.declared.Head.{Head}
 use Rattle.frame.specs.declared.Part.{Part}
 use Rattle.frame.specs.Format.{unwritable}
 use Rattle.frame.specs.Reading.{extensions, dataAt, shown, read}
-use Rattle.laws.proofs.Accepted.{Accepted, token, short, in-SD1, in-SD2, in-SD3, accepted}
-use Rattle.laws.proofs.Body.{writable}
-use Rattle.laws.proofs.Theorems.{read-writable}
+use Rattle.frame_laws.proofs.Accepted.{Accepted, token, short, in-SD1, in-SD2, in-SD3, accepted}
+use Rattle.frame_laws.proofs.Body.{writable}
+use Rattle.frame_laws.proofs.Theorems.{read-writable}
 use Rattle.state.specs.Answering.{Readable}
 
 data-behind : (b : List ℕ) → length b ≤ 249 → length (drop (dataAt b) b) ≤ 246

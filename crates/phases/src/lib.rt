@@ -10,6 +10,9 @@ ghost use Rattle.state.specs.Refusals.{Sited, inFlight};
 ghost use Rattle.state.specs.Calls.{slotIn, sentIn, awaitedRead};
 ghost use Rattle.state.specs.Told.{Does};
 ghost use Rattle.phases.specs.Underway.{Underway};
+
+mod judge;
+
 use clock::BitTime;
 use frame::Answer;
 use frame::Fields;
@@ -30,8 +33,14 @@ pub fn slot_in(
     larea: &mut [u8],
     out: &mut [u8],
 ) -> Moved
-    requires { ⌜ (Sited c (rows (now high) (now harea)) (rows (now low) (now larea))) × ((Underway c) × (255 ≤ length (now out))) ⌝ }
-    ensures { λ r. ⌜ Does (slotIn (c .doing .phase) (clock .0) (siteOf c (now (masters .entry)) (now (marks .entry)) (rows (now (high .entry)) (now (harea .entry))) (rows (now (low .entry)) (now (larea .entry))))) (now (out .entry)) r (now (masters .exit)) (now (marks .exit)) (rows (now (high .exit)) (now (harea .exit))) (rows (now (low .exit)) (now (larea .exit))) (now (out .exit)) ⌝ }
+    requires { ⌜ (Sited c (rows (now high) (now harea)) (rows (now low) (now larea)))
+        × ((Underway c) × (255 ≤ length (now out))) ⌝ }
+    ensures { λ r. ⌜ Does
+        (slotIn (c .doing .phase) (clock .0)
+        (siteOf c (now (masters .entry)) (now (marks .entry)) (rows (now (high .entry)) (now (harea .entry)))
+        (rows (now (low .entry)) (now (larea .entry))))) (now (out .entry)) r (now (masters .exit))
+        (now (marks .exit)) (rows (now (high .exit)) (now (harea .exit))) (rows (now (low .exit)) (now (larea .exit)))
+        (now (out .exit)) ⌝ }
 {
     let doing = c.doing;
     let phase = doing.phase;
@@ -56,8 +65,14 @@ pub fn sent_in(
     larea: &mut [u8],
     out: &mut [u8],
 ) -> Moved
-    requires { ⌜ (Sited c (rows (now high) (now harea)) (rows (now low) (now larea))) × ((Underway c) × (255 ≤ length (now out))) ⌝ }
-    ensures { λ r. ⌜ Does (sentIn (c .doing .phase) (clock .0) (siteOf c (now (masters .entry)) (now (marks .entry)) (rows (now (high .entry)) (now (harea .entry))) (rows (now (low .entry)) (now (larea .entry))))) (now (out .entry)) r (now (masters .entry)) (now (marks .exit)) (rows (now (high .exit)) (now (harea .exit))) (rows (now (low .exit)) (now (larea .exit))) (now (out .exit)) ⌝ }
+    requires { ⌜ (Sited c (rows (now high) (now harea)) (rows (now low) (now larea)))
+        × ((Underway c) × (255 ≤ length (now out))) ⌝ }
+    ensures { λ r. ⌜ Does
+        (sentIn (c .doing .phase) (clock .0)
+        (siteOf c (now (masters .entry)) (now (marks .entry)) (rows (now (high .entry)) (now (harea .entry)))
+        (rows (now (low .entry)) (now (larea .entry))))) (now (out .entry)) r (now (masters .entry))
+        (now (marks .exit)) (rows (now (high .exit)) (now (harea .exit))) (rows (now (low .exit)) (now (larea .exit)))
+        (now (out .exit)) ⌝ }
 {
     let doing = c.doing;
     let phase = doing.phase;
@@ -97,8 +112,15 @@ fn good(
     larea: &mut [u8],
     out: &mut [u8],
 ) -> Moved
-    requires { ⌜ (Sited c (rows (now high) (now harea)) (rows (now low) (now larea))) × ((0 < queueOf (c .doing .served) c .unconfirmed) × ((length (now x) ≤ 246) × (255 ≤ length (now out)))) ⌝ }
-    ensures { λ r. ⌜ Does (concluded (clock .0) (now (x .entry)) (judged (c .ts .0) (inFlight c (now (high .entry)) (now (low .entry))) f n) (siteOf c (now (masters .entry)) (now (marks .entry)) (rows (now (high .entry)) (now (harea .entry))) (rows (now (low .entry)) (now (larea .entry))))) (now (out .entry)) r (now (masters .entry)) (now (marks .exit)) (rows (now (high .exit)) (now (harea .exit))) (rows (now (low .exit)) (now (larea .exit))) (now (out .exit)) ⌝ }
+    requires { ⌜ (Sited c (rows (now high) (now harea)) (rows (now low) (now larea)))
+        × ((0 < queueOf (c .doing .served) c .unconfirmed) × ((length (now x) ≤ 246) × (255 ≤ length (now out)))) ⌝ }
+    ensures { λ r. ⌜ Does
+        (concluded (clock .0) (now (x .entry))
+        (judged (c .ts .0) (inFlight c (now (high .entry)) (now (low .entry))) f n)
+        (siteOf c (now (masters .entry)) (now (marks .entry)) (rows (now (high .entry)) (now (harea .entry)))
+        (rows (now (low .entry)) (now (larea .entry))))) (now (out .entry)) r (now (masters .entry))
+        (now (marks .exit)) (rows (now (high .exit)) (now (harea .exit))) (rows (now (low .exit)) (now (larea .exit)))
+        (now (out .exit)) ⌝ }
 {
     let ts = c.ts;
     let r = refusals::in_flight(c, high, low);
@@ -131,8 +153,14 @@ pub fn awaited(
     larea: &mut [u8],
     out: &mut [u8],
 ) -> Moved
-    requires { ⌜ (Sited c (rows (now high) (now harea)) (rows (now low) (now larea))) × ((0 < queueOf (c .doing .served) c .unconfirmed) × (255 ≤ length (now out))) ⌝ }
-    ensures { λ r. ⌜ Does (awaitedRead (clock .0) (now (s .entry)) (Reading·read (now (s .entry))) (siteOf c (now (masters .entry)) (now (marks .entry)) (rows (now (high .entry)) (now (harea .entry))) (rows (now (low .entry)) (now (larea .entry))))) (now (out .entry)) r (now (masters .entry)) (now (marks .exit)) (rows (now (high .exit)) (now (harea .exit))) (rows (now (low .exit)) (now (larea .exit))) (now (out .exit)) ⌝ }
+    requires { ⌜ (Sited c (rows (now high) (now harea)) (rows (now low) (now larea)))
+        × ((0 < queueOf (c .doing .served) c .unconfirmed) × (255 ≤ length (now out))) ⌝ }
+    ensures { λ r. ⌜ Does
+        (awaitedRead (clock .0) (now (s .entry)) (Reading·read (now (s .entry)))
+        (siteOf c (now (masters .entry)) (now (marks .entry)) (rows (now (high .entry)) (now (harea .entry)))
+        (rows (now (low .entry)) (now (larea .entry))))) (now (out .entry)) r (now (masters .entry))
+        (now (marks .exit)) (rows (now (high .exit)) (now (harea .exit))) (rows (now (low .exit)) (now (larea .exit)))
+        (now (out .exit)) ⌝ }
 {
     match read::read(s) {
         Answer::Refused(_) => conclude::retry(

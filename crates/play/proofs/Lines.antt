@@ -8,9 +8,9 @@ use Rattle.laid.specs.Laid.{laid, Lays}
 use Rattle.state.specs.declared.State.{State}
 use Rattle.state.specs.World.{Rows}
 use Rattle.state.specs.Told.{Leaves, leaves}
-use Rattle.saying.specs.declared.Played.{Played}
-use Rattle.saying.specs.Saying.{printing}
-use Rattle.saying.proofs.Lines.{line-length, line-left}
+use Rattle.printed_lines.specs.declared.saying.Played.{Played}
+use Rattle.printed_lines.specs.Saying.{printing}
+use Rattle.printed_lines.proofs.saying.Lines.{line-length, line-left}
 use Rattle.play.specs.Play.{stays}
 
 pub stays-told : (line : List ℕ) (s : State) (high low : Rows) (text : List ℕ) {n : ℕ} {text′ : List ℕ} → Lays text 0 line 8192 n text′

@@ -2,15 +2,17 @@
 -- calls are those of document 01 with what the line's words give them, and an output of 255 octets. Assumes nothing.
 use Prim.Native.Nat.{ℕ}
 use mathlib.Core.List.{List, []}
-use Rattle.places.specs.Places.{LONG, SHORT}
-use Rattle.script.specs.declared.Call.{Call}
-use Rattle.script.specs.declared.Call.the-variants.{Unknown, Start, Submit, Frame, Sent, Slot, Reset, Collect, Show}
-use Rattle.operands.specs.Operands.{numberAt, octetsAt, settingsOf, tsOf, mastersOf, pointsOf, queueOf, requestOf, roomOf}
+use Rattle.typed.specs.Places.{LONG, SHORT}
+use Rattle.typed_call.specs.declared.script.Call.{Call}
+use Rattle.typed_call.specs.declared.script.Call.the-variants.{Unknown, Start, Submit, Frame, Sent, Slot, Reset}
+use Rattle.typed_call.specs.declared.script.Call.the-variants.{Collect, Show}
+use Rattle.typed_call.specs.Operands.{numberAt, octetsAt, settingsOf, tsOf, mastersOf, pointsOf, queueOf, requestOf}
+use Rattle.typed_call.specs.Operands.{roomOf}
 use Rattle.printed.specs.Printed.{shownLine}
 use Rattle.state.specs.declared.State.{State}
 use Rattle.state.specs.World.{Rows, World, Called, worldOf}
 use Rattle.state.specs.Calls.{Started, start, submit, frame, sent, slot, reset, collect}
-use Rattle.saying.specs.Saying.{unknownLine, plainOf, answerOf, handedOf, Plays, playing}
+use Rattle.printed_lines.specs.Saying.{unknownLine, plainOf, answerOf, handedOf, Plays, playing}
 
 -- nothing but a line
 unfoldable pub stays : List ℕ → State → Rows → Rows → Plays

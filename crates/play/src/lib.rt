@@ -5,13 +5,15 @@ ghost use Prim.Native.Nat.{_≤_};
 ghost use lib.ListN.{length};
 ghost use Rattle.state.specs.World.{rows, worldOf};
 ghost use Rattle.state.specs.Told.{leaves, startedOf};
-ghost use Rattle.operands.specs.Operands.{octetsAt};
-ghost use Rattle.saying.specs.Saying.{plainOf, answerOf, played, printing};
+ghost use Rattle.typed_call.specs.Operands.{octetsAt};
+ghost use Rattle.printed_lines.specs.Saying.{plainOf, answerOf, played, printing};
 ghost use Rattle.play.specs.Play.{startBy, submitBy, frameBy, playedBy};
-use saying::Played;
-use script::Call;
+use printed_lines::saying;
+use printed_lines::saying::Played;
 use state::Renewed;
 use state::State;
+use typed_call::operands;
+use typed_call::script::Call;
 
 const SHORT: u32 = 255;
 
@@ -21,7 +23,7 @@ pub fn start(line: &[u8]) -> Renewed
 {
     let high = operands::number(line, 11, SHORT) as usize;
     let low = operands::number(line, 12, SHORT) as usize;
-    start::start(
+    station::start(
         operands::settings(line),
         operands::ts(line),
         operands::masters(line),
@@ -42,13 +44,18 @@ fn submit(
     text: &mut [u8],
 ) -> Played
     requires { ⌜ (length (now line) ≤ 4096) × (8192 ≤ length (now text)) ⌝ }
-    ensures { λ a. ⌜ leaves a (rows (now (high .exit)) (now (harea .exit))) (rows (now (low .exit)) (now (larea .exit))) (now (text .exit)) ≡ played plainOf (submitBy (now (line .entry)) (worldOf s (rows (now (high .entry)) (now (harea .entry))) (rows (now (low .entry)) (now (larea .entry))))) (now (text .entry)) ⌝ }
+    ensures { λ a. ⌜ leaves a (rows (now (high .exit)) (now (harea .exit)))
+        (rows (now (low .exit)) (now (larea .exit))) (now (text .exit))
+        ≡ played plainOf
+        (submitBy (now (line .entry))
+        (worldOf s (rows (now (high .entry)) (now (harea .entry)))
+        (rows (now (low .entry)) (now (larea .entry))))) (now (text .entry)) ⌝ }
 {
     let mut data = [0u8; 2048];
     let n = operands::octets(line, 6, &mut data);
     let p = operands::queue(line);
     let r = operands::request(line);
-    booked::submit(s, p, r, &data[..n], high, harea, low, larea, text)
+    play_queues::submit(s, p, r, &data[..n], high, harea, low, larea, text)
 }
 
 // Gives a frame.
@@ -62,7 +69,12 @@ fn frame(
     text: &mut [u8],
 ) -> Played
     requires { ⌜ (length (now line) ≤ 4096) × (8192 ≤ length (now text)) ⌝ }
-    ensures { λ a. ⌜ leaves a (rows (now (high .exit)) (now (harea .exit))) (rows (now (low .exit)) (now (larea .exit))) (now (text .exit)) ≡ played (answerOf (octetsAt (now (line .entry)) 5)) (frameBy (now (line .entry)) (worldOf s (rows (now (high .entry)) (now (harea .entry))) (rows (now (low .entry)) (now (larea .entry))))) (now (text .entry)) ⌝ }
+    ensures { λ a. ⌜ leaves a (rows (now (high .exit)) (now (harea .exit)))
+        (rows (now (low .exit)) (now (larea .exit))) (now (text .exit))
+        ≡ played (answerOf (octetsAt (now (line .entry)) 5))
+        (frameBy (now (line .entry))
+        (worldOf s (rows (now (high .entry)) (now (harea .entry)))
+        (rows (now (low .entry)) (now (larea .entry))))) (now (text .entry)) ⌝ }
 {
     let mut first = [0u8; 2048];
     let mut second = [0u8; 2048];
@@ -72,7 +84,7 @@ fn frame(
     let k = operands::octets(line, 5, &mut octets);
     let clock = operands::clock(line);
     let room = operands::room(line);
-    played::frame(
+    play_turns::frame(
         s,
         clock,
         room,
@@ -99,7 +111,11 @@ pub fn play(
     text: &mut [u8],
 ) -> Played
     requires { ⌜ (length (now line) ≤ 4096) × (8192 ≤ length (now text)) ⌝ }
-    ensures { λ a. ⌜ leaves a (rows (now (high .exit)) (now (harea .exit))) (rows (now (low .exit)) (now (larea .exit))) (now (text .exit)) ≡ printing (playedBy call (now (line .entry)) s (rows (now (high .entry)) (now (harea .entry))) (rows (now (low .entry)) (now (larea .entry)))) (now (text .entry)) ⌝ }
+    ensures { λ a. ⌜ leaves a (rows (now (high .exit)) (now (harea .exit)))
+        (rows (now (low .exit)) (now (larea .exit))) (now (text .exit))
+        ≡ printing
+        (playedBy call (now (line .entry)) s (rows (now (high .entry)) (now (harea .entry)))
+        (rows (now (low .entry)) (now (larea .entry)))) (now (text .entry)) ⌝ }
 {
     match call {
         Call::Unknown => Played {
@@ -112,13 +128,21 @@ pub fn play(
         },
         Call::Submit => submit(s, line, high, harea, low, larea, text),
         Call::Frame => frame(s, line, high, harea, low, larea, text),
-        Call::Sent => played::sent(s, operands::clock(line), high, harea, low, larea, text),
-        Call::Slot => played::slot(s, operands::clock(line), high, harea, low, larea, text),
-        Call::Reset => booked::reset(s, high, harea, low, larea, text),
-        Call::Collect => booked::collect(s, operands::queue(line), high, harea, low, larea, text),
+        Call::Sent => play_turns::sent(s, operands::clock(line), high, harea, low, larea, text),
+        Call::Slot => play_turns::slot(s, operands::clock(line), high, harea, low, larea, text),
+        Call::Reset => play_queues::reset(s, high, harea, low, larea, text),
+        Call::Collect => play_queues::collect(
+            s,
+            operands::queue(line),
+            high,
+            harea,
+            low,
+            larea,
+            text,
+        ),
         Call::Show => Played {
             state: s,
-            length: booked::show(s, text),
+            length: play_queues::show(s, text),
         },
     }
 }

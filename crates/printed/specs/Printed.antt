@@ -7,7 +7,7 @@ use Rattle.choice.specs.Choice.{pick, less, same}
 use Rattle.control.specs.Control.{fc}
 use Rattle.frame.specs.Reading.{part, shown as dataOf}
 use Rattle.request.specs.declared.Record.{Record}
-use Rattle.request.specs.Record.{NONE}
+use Rattle.frame.specs.Access.{NONE, pointOf}
 use Rattle.queue.specs.declared.Queue.{Queue}
 use Rattle.ring.specs.Ring.{member, nextOf}
 use Rattle.state.specs.declared.Phase.{Phase}
@@ -15,10 +15,9 @@ use Rattle.state.specs.declared.Phase.the-variants.{Idle, Awaited, Sdn, Check, 
 use Rattle.state.specs.declared.Core.{Core}
 use Rattle.state.specs.declared.Indication.{Indication}
 use Rattle.state.specs.declared.Indication.the-variants.{None, Shown}
-use Rattle.state.specs.Request.{pointOf}
-use Rattle.digits.specs.Digits.{shown}
-use Rattle.places.specs.Places.{w-high, w-low, w-sda, w-sdn, w-srd, w-status, w-ident, w-lsap}
-use Rattle.numeral.specs.Numeral.{numeral}
+use Rattle.typed.specs.Digits.{shown}
+use Rattle.typed.specs.Places.{w-high, w-low, w-sda, w-sdn, w-srd, w-status, w-ident, w-lsap}
+use Rattle.printed.specs.Numeral.{numeral}
 
 -- ---- words; those that are typed too stand in `places`
 -- one space

@@ -5,7 +5,8 @@ use mathlib.Core.Bool.{Bool, true, false}
 use mathlib.Core.Path.{_≡_, refl, sym, ap, _∙_}
 use native.Mathlib.Omega.{arith}
 use Rattle.choice.specs.Choice.{pick, less, same}
-use Rattle.choice.proofs.Rules.{true-less, false-less, true-same, false-same, pick-true, pick-false, pick-itself, flag-true, flag-false, if-less, unless-less, unrefused, granted}
+use Rattle.choice.proofs.Rules.{true-less, false-less, true-same, false-same, pick-true, pick-false, pick-itself}
+use Rattle.choice.proofs.Rules.{flag-true, flag-false, if-less, unless-less, unrefused, granted}
 use Rattle.request.specs.declared.Record.{Record}
 use Rattle.request.specs.Record.{unfit}
 use Rattle.queue.specs.declared.Queue.{Queue}

@@ -2,7 +2,10 @@
 // touches a row. Assumes nothing.
 ghost use mathlib.Core.Path.{_≡_};
 ghost use Prim.Native.Nat.{_+_, _<_, _≤_};
-ghost use Rattle.queue.specs.Queue.{Ruled, place as Queue·place, current as Queue·current, unlike as Queue·unlike, misfit as Queue·misfit, above as Queue·above, overfull as Queue·overfull, refuse as Queue·refuse, take as Queue·take, taken, closed, confirmed, freed, collected};
+ghost use Rattle.queue.specs.Queue.{Ruled, place as Queue·place, current as Queue·current};
+ghost use Rattle.queue.specs.Queue.{unlike as Queue·unlike, misfit as Queue·misfit, above as Queue·above};
+ghost use Rattle.queue.specs.Queue.{overfull as Queue·overfull, refuse as Queue·refuse, take as Queue·take};
+ghost use Rattle.queue.specs.Queue.{taken, closed, confirmed, freed, collected};
 use frame::Address;
 use request::Record;
 

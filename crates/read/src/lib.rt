@@ -5,6 +5,9 @@ ghost use Prim.Native.Nat.{_+_, _≤_};
 ghost use lib.ListN.{length};
 ghost use Rattle.frame.specs.Reading.{readBody, readToken, readShort};
 ghost use Rattle.frame.specs.Reading.{part as Reading·part, mismeasured as Reading·mismeasured, read as Reading·read};
+
+mod body;
+
 use frame::Address;
 use frame::Answer;
 use frame::Fields;

@@ -19,7 +19,8 @@ use Rattle.queue.specs.declared.Collected.{Collected}
 use Rattle.queue.specs.declared.Collected.the-variants.{Refused}
 use Rattle.queue.specs.Queue.{AREA, Ruled, current, misfit, unlike, overfull, closed, refuse, taken, collected}
 use Rattle.records.specs.Records.{at, put, refusal, decided, confirm, handed}
-use Rattle.records.proofs.Laws.{ready-queue, ready-row, current-below, within-decided, length-put, at-put, at-other}
+use Rattle.records.proofs.Laws.{ready-queue, ready-row, current-below, within-decided, length-put, at-put}
+use Rattle.records.proofs.Laws.{at-other}
 
 -- a row of octets that holds a row of records
 pub record Holds (rs : List Record) (row : List ℕ) : Type 0 where

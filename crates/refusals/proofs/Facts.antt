@@ -24,7 +24,8 @@ use Rattle.state.specs.declared.Priority.the-variants.{High, Low}
 use Rattle.state.specs.declared.Core.{Core}
 use Rattle.state.specs.declared.Kept.{Kept}
 use Rattle.state.specs.World.{Rows, queueOf}
-use Rattle.state.specs.Refusals.{Lawful, Sited, unstartable, unlent, cramped, unstarted, misaddressed, overcounted, oddIn, lawless, soundIn, unlikeIn, rowBy, inFlight, unsound, refusalIn}
+use Rattle.state.specs.Refusals.{Lawful, Sited, unstartable, unlent, cramped, unstarted, misaddressed, overcounted}
+use Rattle.state.specs.Refusals.{oddIn, lawless, soundIn, unlikeIn, rowBy, inFlight, unsound, refusalIn}
 
 -- ---- 20
 module _ (s : Settings) (ts : ℕ) (masters : List ℕ) (e : unstartable s ts masters ≡ false) where

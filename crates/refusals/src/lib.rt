@@ -7,7 +7,10 @@ ghost use Rattle.choice.specs.Choice.{same};
 ghost use Rattle.ring.specs.Ring.{member, nextOf};
 ghost use Rattle.state.specs.World.{Rows, queueOf};
 ghost use Rattle.state.specs.Refusals.{Lawful, oddIn, unlikeIn, inFlight, refusalIn};
-ghost use Rattle.state.specs.Refusals.{unstartable as Refusals·unstartable, unlent as Refusals·unlent, cramped as Refusals·cramped, unstarted as Refusals·unstarted, misaddressed as Refusals·misaddressed, overcounted as Refusals·overcounted, lawless as Refusals·lawless, unsound as Refusals·unsound};
+ghost use Rattle.state.specs.Refusals.{unstartable as Refusals·unstartable, unlent as Refusals·unlent};
+ghost use Rattle.state.specs.Refusals.{cramped as Refusals·cramped, unstarted as Refusals·unstarted};
+ghost use Rattle.state.specs.Refusals.{misaddressed as Refusals·misaddressed, overcounted as Refusals·overcounted};
+ghost use Rattle.state.specs.Refusals.{lawless as Refusals·lawless, unsound as Refusals·unsound};
 use frame::Address;
 use queue::Queue;
 use request::Record;
@@ -237,7 +240,10 @@ pub fn refusal(
     low: &[u8],
     larea: &[u8],
 ) -> u8
-    ensures { λ r. ⌜ r ≡ refusalIn out first second c (now (masters .entry)) (now (started .entry)) k (record { row = now (high .entry); area = now (harea .entry) }) (record { row = now (low .entry); area = now (larea .entry) }) ⌝ }
+    ensures { λ r. ⌜ r
+        ≡ refusalIn out first second c (now (masters .entry)) (now (started .entry)) k
+        (record { row = now (high .entry); area = now (harea .entry) })
+        (record { row = now (low .entry); area = now (larea .entry) }) ⌝ }
 {
     let upper = c.high;
     let lower = c.low;

@@ -1,10 +1,10 @@
 // Replay: reads a replay script on standard input to its end, a block at a time, and answers each line as soon as it is
-// whole. What a line does and prints is `desk::answer`, which lines there are is `intake::gather`; here they are called in
+// whole. What a line does and prints is `desk::answer`, which lines there are is `typed_lines::gather`; here they are called in
 // turn, in memory that does not grow with the script.
 ghost use mathlib.Core.Path.{_≡_};
 ghost use lib.ListN.{length};
 ghost use Rattle.desk.specs.Desk.{Few, Arrays};
-ghost use Rattle.intake.specs.Intake.{ROOM};
+ghost use Rattle.typed_lines.specs.Intake.{ROOM};
 ghost use Rattle.replay.specs.Replay.{Ready};
 use desk::Held;
 use libc::STDIN_FILENO;
@@ -43,7 +43,8 @@ fn heed(
     text: &mut [u8],
 ) -> Pending
     requires { ⌜ Ready h count (now line) (now high) (now harea) (now low) (now larea) (now text) ⌝ }
-    ensures { λ r. ⌜ Ready (r .held) (r .count) (now (line .exit)) (now (high .exit)) (now (harea .exit)) (now (low .exit)) (now (larea .exit)) (now (text .exit)) ⌝ }
+    ensures { λ r. ⌜ Ready (r .held) (r .count) (now (line .exit)) (now (high .exit)) (now (harea .exit))
+        (now (low .exit)) (now (larea .exit)) (now (text .exit)) ⌝ }
 {
     if !whole {
         return Pending { held: h, count };
@@ -68,13 +69,14 @@ fn take_in(
     text: &mut [u8],
 ) -> Pending
     requires { ⌜ Ready h count (now line) (now high) (now harea) (now low) (now larea) (now text) ⌝ }
-    ensures { λ r. ⌜ Ready (r .held) (r .count) (now (line .exit)) (now (high .exit)) (now (harea .exit)) (now (low .exit)) (now (larea .exit)) (now (text .exit)) ⌝ }
+    ensures { λ r. ⌜ Ready (r .held) (r .count) (now (line .exit)) (now (high .exit)) (now (harea .exit))
+        (now (low .exit)) (now (larea .exit)) (now (text .exit)) ⌝ }
 {
     let mut held = h;
     let mut kept = count;
     let mut at = 0;
     while at < block.len() {
-        let g = intake::gather(block, at, line, kept);
+        let g = typed_lines::gather(block, at, line, kept);
         at = g.next;
         let p = heed(g.whole, held, g.count, line, high, harea, low, larea, text);
         held = p.held;

@@ -12,7 +12,8 @@ use Rattle.frame.specs.Reading.{octet}
 use Rattle.laid.specs.Laid.{laid}
 use Rattle.laid.proofs.Octets.{laid-octet, before-octet, behind-octet}
 use Rattle.request.specs.declared.Record.{Record}
-use Rattle.request.specs.Record.{SIZE, octets, recordAt, extensions, misaddressed, mispointed, unserved, overlong, unfit}
+use Rattle.request.specs.Record.{SIZE, octets, recordAt, extensions, misaddressed, mispointed, unserved}
+use Rattle.request.specs.Record.{overlong, unfit}
 
 -- a fit request, test by test
 pub record Fit (ts : ℕ) (r : Record) (n : ℕ) : Type 0 where

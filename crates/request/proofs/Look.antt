@@ -5,7 +5,8 @@ use mathlib.Core.Logic.{_⊎_, inl, inr, ⊎-elim}
 use mathlib.Core.Path.{_≡_, refl, sym, _∙_}
 use native.Mathlib.Omega.{arith}
 use Rattle.choice.specs.Choice.{pick, less, same, said, either}
-use Rattle.choice.proofs.Rules.{less-false, same-true, same-false, true-less, true-same, pick-true, pick-false, said-false}
+use Rattle.choice.proofs.Rules.{less-false, same-true, same-false, true-less, true-same, pick-true, pick-false}
+use Rattle.choice.proofs.Rules.{said-false}
 use Rattle.request.specs.declared.Record.{Record}
 use Rattle.request.specs.Record.{misaddressed, beyond, mispointed, unserved, extensions, overlong, unfit}
 

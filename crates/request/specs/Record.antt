@@ -3,8 +3,7 @@ use Prim.Native.Nat.{ℕ, _+_}
 use mathlib.Core.Bool.{Bool, true, false}
 use mathlib.Core.List.{List, [], _∷_}
 use Rattle.choice.specs.Choice.{pick, less, same, said}
-use Rattle.frame.specs.declared.Access.{Access}
-use Rattle.frame.specs.declared.Access.the-variants.{None, At}
+use Rattle.frame.specs.Access.{NONE}
 use Rattle.frame.specs.declared.Address.{Address}
 use Rattle.frame.specs.Reading.{octet}
 use Rattle.request.specs.declared.Record.{Record}
@@ -42,13 +41,6 @@ named n =
     (pick (same n 13) true
     (pick (same n NA) true
     (pick (same n DS) true false))))))
-
--- the octet that stands for "no access point", and the access point of an octet
-abbrev pub NONE : ℕ
-NONE = 255
-
-unfoldable pub accessOf : ℕ → Access
-accessOf n = pick (same n NONE) None (At (record { 0 = n }))
 
 -- the octets of a record, and the record of the octets from a place on
 abbrev pub SIZE : ℕ

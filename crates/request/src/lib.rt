@@ -5,9 +5,11 @@ ghost use Prim.Native.Nat.{_+_, _≤_};
 ghost use lib.ListN.{length};
 ghost use Rattle.choice.specs.Choice.{less, same, either};
 ghost use Rattle.laid.specs.Laid.{laid};
-ghost use Rattle.request.specs.Record.{accessOf, recordAt, octets};
-ghost use Rattle.request.specs.Record.{named as Record·named, misaddressed as Record·misaddressed, beyond as Record·beyond, mispointed as Record·mispointed, unserved as Record·unserved, extensions as Record·extensions, overlong as Record·overlong, unfit as Record·unfit};
-use frame::Access;
+ghost use Rattle.request.specs.Record.{recordAt, octets};
+ghost use Rattle.request.specs.Record.{named as Record·named, misaddressed as Record·misaddressed};
+ghost use Rattle.request.specs.Record.{beyond as Record·beyond, mispointed as Record·mispointed};
+ghost use Rattle.request.specs.Record.{unserved as Record·unserved, extensions as Record·extensions};
+ghost use Rattle.request.specs.Record.{overlong as Record·overlong, unfit as Record·unfit};
 use frame::Address;
 use frame::Point;
 
@@ -37,9 +39,6 @@ pub const DS: u8 = 17;
 
 pub const WAITING: u8 = 255;
 
-// No access point.
-const NONE: u8 = 255;
-
 // Whether a status is that of a confirmation.
 pub fn named(status: u8) -> bool
     ensures { λ r. ⌜ r ≡ Record·named status ⌝ }
@@ -66,16 +65,6 @@ pub fn named(status: u8) -> bool
         return true;
     }
     false
-}
-
-// The access point of an octet.
-pub fn access(p: Point) -> Access
-    ensures { λ r. ⌜ r ≡ accessOf (p .0) ⌝ }
-{
-    if p.0 == NONE {
-        return Access::None;
-    }
-    Access::At(p)
 }
 
 // The record of the octets from a place on.
@@ -129,7 +118,7 @@ fn misaddressed(ts: u8, destination: u8, service: u8) -> bool
 fn beyond(point: u8, most: u8) -> bool
     ensures { λ r. ⌜ r ≡ Record·beyond point most ⌝ }
 {
-    if point == NONE {
+    if point == frame::NONE {
         return false;
     }
     if most < point {
@@ -174,7 +163,7 @@ fn unserved(service: u8) -> bool
 fn extensions(point: u8) -> usize
     ensures { λ r. ⌜ (r ≡ Record·extensions point) × (r ≤ 1) ⌝ }
 {
-    if point == NONE {
+    if point == frame::NONE {
         return 0;
     }
     1
@@ -196,7 +185,7 @@ fn usual(point: u8) -> bool
     if point < 63 {
         return true;
     }
-    if point == NONE {
+    if point == frame::NONE {
         return true;
     }
     false

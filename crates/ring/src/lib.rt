@@ -2,7 +2,8 @@
 // here knows a token. Assumes nothing.
 ghost use mathlib.Core.Path.{_≡_};
 ghost use Prim.Native.Nat.{_<_, _≤_};
-ghost use Rattle.ring.specs.Ring.{on as Ring·on, seek as Ring·seek, nextOf, previousOf, enter as Ring·enter, remove as Ring·remove, member as Ring·member};
+ghost use Rattle.ring.specs.Ring.{on as Ring·on, seek as Ring·seek, nextOf, previousOf, enter as Ring·enter};
+ghost use Rattle.ring.specs.Ring.{remove as Ring·remove, member as Ring·member};
 use frame::Address;
 
 // The set of masters: 1 at each address that is in it.

@@ -4,7 +4,9 @@ ghost use mathlib.Core.Path.{_≡_};
 ghost use Prim.Native.Nat.{_+_, _*_, _<_, _≤_};
 ghost use lib.ListN.{length};
 ghost use Rattle.queue.specs.Queue.{Ruled};
-ghost use Rattle.rows.specs.Rows.{Lent, left, submitted, handed, at as Rows·at, put as Rows·put, fill as Rows·fill, confirm as Rows·confirm, drain as Rows·drain, sound as Rows·sound};
+ghost use Rattle.rows.specs.Rows.{Lent, left, submitted, handed, at as Rows·at, put as Rows·put};
+ghost use Rattle.rows.specs.Rows.{fill as Rows·fill, confirm as Rows·confirm, drain as Rows·drain};
+ghost use Rattle.rows.specs.Rows.{sound as Rows·sound};
 use frame::Address;
 use queue::Collected;
 use queue::Queue;
@@ -40,7 +42,8 @@ fn fill(area: &mut [u8], place: u8, x: &[u8])
 
 // Submits a request with its data.
 pub fn submit(ts: Address, q: Queue, r: Record, x: &[u8], row: &mut [u8], area: &mut [u8]) -> Taken
-    ensures { λ t. ⌜ left t (now (row .exit)) (now (area .exit)) ≡ submitted (ts .0) q r (now (x .entry)) (now (row .entry)) (now (area .entry)) ⌝ }
+    ensures { λ t. ⌜ left t (now (row .exit)) (now (area .exit))
+        ≡ submitted (ts .0) q r (now (x .entry)) (now (row .entry)) (now (area .entry)) ⌝ }
 {
     if queue::misfit(q, SIZE, row.len(), area.len()) {
         return queue::refuse(21, q, r);
@@ -61,7 +64,8 @@ pub fn submit(ts: Address, q: Queue, r: Record, x: &[u8], row: &mut [u8], area: 
 // Confirms the first unconfirmed request, with the reply's data.
 pub fn confirm(q: Queue, status: u8, count: u8, x: &[u8], row: &mut [u8], area: &mut [u8]) -> Queue
     requires { ⌜ (Ruled q) × ((0 < q .unconfirmed) × (Lent q (now row) (now area) × (length (now x) ≤ 246))) ⌝ }
-    ensures { λ r. ⌜ left r (now (row .exit)) (now (area .exit)) ≡ Rows·confirm q status count (now (x .entry)) (now (row .entry)) (now (area .entry)) ⌝ }
+    ensures { λ r. ⌜ left r (now (row .exit)) (now (area .exit))
+        ≡ Rows·confirm q status count (now (x .entry)) (now (row .entry)) (now (area .entry)) ⌝ }
 {
     let place = queue::current(q);
     let entry = queue::close(at(row, place), status, count, x.len() as u8);
@@ -73,7 +77,8 @@ pub fn confirm(q: Queue, status: u8, count: u8, x: &[u8], row: &mut [u8], area: 
 // Confirms all unconfirmed requests DS, the first with its count of sendings.
 pub fn drain(q: Queue, count: u8, row: &mut [u8], area: &mut [u8]) -> Queue
     requires { ⌜ (Ruled q) × (Lent q (now row) (now area)) ⌝ }
-    ensures { λ r. ⌜ left r (now (row .exit)) (now (area .exit)) ≡ Rows·drain (q .unconfirmed) count (left q (now (row .entry)) (now (area .entry))) ⌝ }
+    ensures { λ r. ⌜ left r (now (row .exit)) (now (area .exit))
+        ≡ Rows·drain (q .unconfirmed) count (left q (now (row .entry)) (now (area .entry))) ⌝ }
 {
     let mut rest = q;
     let mut sendings = count;

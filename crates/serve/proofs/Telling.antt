@@ -13,7 +13,8 @@ use Rattle.state.specs.declared.Moved.{Moved}
 use Rattle.state.specs.declared.Choice.the-variants.{Serve, PassOn}
 use Rattle.state.specs.declared.Priority.{Priority}
 use Rattle.state.specs.declared.Priority.the-variants.{High, Low}
-use Rattle.state.specs.World.{Rows, Site, What, Event, Done, siteOf, begins, ends, sends, done, andThen, withDoing, withCore, rowsOf}
+use Rattle.state.specs.World.{Rows, Site, What, Event, Done, siteOf, begins, ends, sends, done, andThen, withDoing}
+use Rattle.state.specs.World.{withCore, rowsOf}
 use Rattle.state.specs.Request.{sendCore, sendEvents, send, againEvents, againOf, again, once}
 use Rattle.state.specs.Pass.{ns, passCore, passEvents, pass}
 use Rattle.state.specs.Hold.{choice, finish, chosen, choose, beginning, begin}

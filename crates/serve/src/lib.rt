@@ -6,11 +6,15 @@ ghost use lib.ListN.{length};
 ghost use Rattle.ring.specs.Ring.{nextOf};
 ghost use Rattle.laid.specs.Laid.{Lays};
 ghost use Rattle.state.specs.World.{rows, siteOf, withDoing, queueOf};
-ghost use Rattle.state.specs.Request.{recordIn, octetsIn, sendCore, sendEvents, againEvents, once, send as Request·send, again as Request·again};
+ghost use Rattle.state.specs.Request.{recordIn, octetsIn, sendCore, sendEvents, againEvents, once};
+ghost use Rattle.state.specs.Request.{send as Request·send, again as Request·again};
 ghost use Rattle.state.specs.Pass.{passCore, passEvents};
 ghost use Rattle.state.specs.Hold.{choose as Hold·choose, begin as Hold·begin};
 ghost use Rattle.state.specs.Refusals.{Lawful, Sited, Ready};
 ghost use Rattle.state.specs.Told.{Sends, Does};
+
+pub mod exchange;
+
 use clock::BitTime;
 use frame::Address;
 use ring::Masters;
@@ -23,7 +27,9 @@ use times::Sending;
 // Lays the first unconfirmed request of a queue.
 fn lay(p: Priority, c: Core, marks: &[u8; 127], row: &[u8], area: &[u8], out: &mut [u8]) -> usize
     requires { ⌜ (Ready p c (rows (now row) (now area))) × (255 ≤ length (now out)) ⌝ }
-    ensures { λ n. ⌜ Lays (now (out .entry)) 0 (octetsIn (c .ts) p (queueOf p c) (now (marks .entry)) (rows (now (row .entry)) (now (area .entry)))) 255 n (now (out .exit)) ⌝ }
+    ensures { λ n. ⌜ Lays (now (out .entry)) 0
+        (octetsIn (c .ts) p (queueOf p c) (now (marks .entry)) (rows (now (row .entry)) (now (area .entry)))) 255 n
+        (now (out .exit)) ⌝ }
 {
     let ts = c.ts;
     let q = acts::queue_of(p, c);
@@ -47,7 +53,9 @@ fn service(p: Priority, c: Core, row: &[u8], area: &[u8]) -> u8
 // Sends the first unconfirmed request of a queue for the first time.
 fn send(p: Priority, c: Core, marks: &[u8; 127], row: &[u8], area: &[u8], out: &mut [u8]) -> Moved
     requires { ⌜ (Ready p c (rows (now row) (now area))) × (255 ≤ length (now out)) ⌝ }
-    ensures { λ r. ⌜ Sends (sendCore p c (rows (now (row .entry)) (now (area .entry)))) (sendEvents p c (now (marks .entry)) (rows (now (row .entry)) (now (area .entry)))) (now (out .entry)) r (now (out .exit)) ⌝ }
+    ensures { λ r. ⌜ Sends (sendCore p c (rows (now (row .entry)) (now (area .entry))))
+        (sendEvents p c (now (marks .entry)) (rows (now (row .entry)) (now (area .entry)))) (now (out .entry)) r
+        (now (out .exit)) ⌝ }
 {
     let length = lay(p, c, marks, row, area, out);
     let wait = acts::wait_after(c);
@@ -69,7 +77,9 @@ fn send_again(
     out: &mut [u8],
 ) -> Moved
     requires { ⌜ (Ready p c (rows (now row) (now area))) × ((c .doing .sendings < 255) × (255 ≤ length (now out))) ⌝ }
-    ensures { λ r. ⌜ Sends (withDoing (once (c .doing)) c) (againEvents p c (now (marks .entry)) (rows (now (row .entry)) (now (area .entry)))) (now (out .entry)) r (now (out .exit)) ⌝ }
+    ensures { λ r. ⌜ Sends (withDoing (once (c .doing)) c)
+        (againEvents p c (now (marks .entry)) (rows (now (row .entry)) (now (area .entry)))) (now (out .entry)) r
+        (now (out .exit)) ⌝ }
 {
     let length = lay(p, c, marks, row, area, out);
     let wait = acts::wait_for(c, Sending::Other);
@@ -93,8 +103,15 @@ pub fn again(
     larea: &[u8],
     out: &mut [u8],
 ) -> Moved
-    requires { ⌜ (Sited c (rows (now high) (now harea)) (rows (now low) (now larea))) × ((0 < queueOf (c .doing .served) c .unconfirmed) × ((c .doing .sendings < 255) × (255 ≤ length (now out)))) ⌝ }
-    ensures { λ r. ⌜ Does (Request·again (siteOf c (now (masters .entry)) (now (marks .entry)) (rows (now (high .entry)) (now (harea .entry))) (rows (now (low .entry)) (now (larea .entry))))) (now (out .entry)) r (now (masters .entry)) (now (marks .entry)) (rows (now (high .entry)) (now (harea .entry))) (rows (now (low .entry)) (now (larea .entry))) (now (out .exit)) ⌝ }
+    requires { ⌜ (Sited c (rows (now high) (now harea)) (rows (now low) (now larea)))
+        × ((0 < queueOf (c .doing .served) c .unconfirmed)
+        × ((c .doing .sendings < 255) × (255 ≤ length (now out)))) ⌝ }
+    ensures { λ r. ⌜ Does
+        (Request·again
+        (siteOf c (now (masters .entry)) (now (marks .entry)) (rows (now (high .entry)) (now (harea .entry)))
+        (rows (now (low .entry)) (now (larea .entry))))) (now (out .entry)) r (now (masters .entry))
+        (now (marks .entry)) (rows (now (high .entry)) (now (harea .entry)))
+        (rows (now (low .entry)) (now (larea .entry))) (now (out .exit)) ⌝ }
 {
     let d = c.doing;
     let served = d.served;
@@ -116,8 +133,14 @@ fn serve(
     larea: &[u8],
     out: &mut [u8],
 ) -> Moved
-    requires { ⌜ (Sited c (rows (now high) (now harea)) (rows (now low) (now larea))) × ((0 < queueOf p c .unconfirmed) × (255 ≤ length (now out))) ⌝ }
-    ensures { λ r. ⌜ Does (Request·send p (siteOf c (now (masters .entry)) (now (marks .entry)) (rows (now (high .entry)) (now (harea .entry))) (rows (now (low .entry)) (now (larea .entry))))) (now (out .entry)) r (now (masters .entry)) (now (marks .entry)) (rows (now (high .entry)) (now (harea .entry))) (rows (now (low .entry)) (now (larea .entry))) (now (out .exit)) ⌝ }
+    requires { ⌜ (Sited c (rows (now high) (now harea)) (rows (now low) (now larea)))
+        × ((0 < queueOf p c .unconfirmed) × (255 ≤ length (now out))) ⌝ }
+    ensures { λ r. ⌜ Does
+        (Request·send p
+        (siteOf c (now (masters .entry)) (now (marks .entry)) (rows (now (high .entry)) (now (harea .entry)))
+        (rows (now (low .entry)) (now (larea .entry))))) (now (out .entry)) r (now (masters .entry))
+        (now (marks .entry)) (rows (now (high .entry)) (now (harea .entry)))
+        (rows (now (low .entry)) (now (larea .entry))) (now (out .exit)) ⌝ }
 {
     match p {
         Priority::High => send(Priority::High, c, marks, high, harea, out),
@@ -164,7 +187,12 @@ pub fn choose(
     out: &mut [u8],
 ) -> Moved
     requires { ⌜ (Sited c (rows (now high) (now harea)) (rows (now low) (now larea))) × (255 ≤ length (now out)) ⌝ }
-    ensures { λ r. ⌜ Does (Hold·choose starts (clock .0) (siteOf c (now (masters .entry)) (now (marks .entry)) (rows (now (high .entry)) (now (harea .entry))) (rows (now (low .entry)) (now (larea .entry))))) (now (out .entry)) r (now (masters .entry)) (now (marks .entry)) (rows (now (high .entry)) (now (harea .entry))) (rows (now (low .entry)) (now (larea .entry))) (now (out .exit)) ⌝ }
+    ensures { λ r. ⌜ Does
+        (Hold·choose starts (clock .0)
+        (siteOf c (now (masters .entry)) (now (marks .entry)) (rows (now (high .entry)) (now (harea .entry)))
+        (rows (now (low .entry)) (now (larea .entry))))) (now (out .entry)) r (now (masters .entry))
+        (now (marks .entry)) (rows (now (high .entry)) (now (harea .entry)))
+        (rows (now (low .entry)) (now (larea .entry))) (now (out .exit)) ⌝ }
 {
     match acts::choice(starts, c, clock) {
         Choice::Serve(p) => serve(p, c, masters, marks, high, harea, low, larea, out),
@@ -185,7 +213,12 @@ pub fn begin(
     out: &mut [u8],
 ) -> Moved
     requires { ⌜ (Sited c (rows (now high) (now harea)) (rows (now low) (now larea))) × (255 ≤ length (now out)) ⌝ }
-    ensures { λ r. ⌜ Does (Hold·begin (clock .0) (siteOf c (now (masters .entry)) (now (marks .entry)) (rows (now (high .entry)) (now (harea .entry))) (rows (now (low .entry)) (now (larea .entry))))) (now (out .entry)) r (now (masters .entry)) (now (marks .entry)) (rows (now (high .entry)) (now (harea .entry))) (rows (now (low .entry)) (now (larea .entry))) (now (out .exit)) ⌝ }
+    ensures { λ r. ⌜ Does
+        (Hold·begin (clock .0)
+        (siteOf c (now (masters .entry)) (now (marks .entry)) (rows (now (high .entry)) (now (harea .entry)))
+        (rows (now (low .entry)) (now (larea .entry))))) (now (out .entry)) r (now (masters .entry))
+        (now (marks .entry)) (rows (now (high .entry)) (now (harea .entry)))
+        (rows (now (low .entry)) (now (larea .entry))) (now (out .exit)) ⌝ }
 {
     choose(
         true,

@@ -24,7 +24,9 @@ use Rattle.state.specs.declared.Priority.the-variants.{High, Low}
 use Rattle.state.specs.declared.Choice.the-variants.{Serve, PassOn}
 use Rattle.state.specs.declared.Outcome.{Outcome}
 use Rattle.state.specs.declared.Outcome.the-variants.{Replied, Lost, Gone}
-use Rattle.state.specs.World.{Site, Event, accepted, begins, ends, sends, confirmed, collected, indicated, resets, aRequest, aToken, withDoing, withStranger, withQueue, queueOf, withCore, rowsOf, withRows}
+use Rattle.state.specs.World.{Site, Event, accepted, begins, ends, sends, confirmed, collected, indicated}
+use Rattle.state.specs.World.{resets, aRequest, aToken, withDoing, withStranger, withQueue, queueOf, withCore}
+use Rattle.state.specs.World.{rowsOf, withRows}
 use Rattle.state.specs.Request.{UNKNOWN, octetsIn, afterLast, waitFor, sendCore, once, statusOf, closeOf}
 use Rattle.state.specs.Pass.{ns, tokenTo, passCore, without}
 use Rattle.state.specs.Hold.{choice, rest, beginning, admit}

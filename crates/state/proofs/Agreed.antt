@@ -8,7 +8,8 @@ use native.Mathlib.Omega.{arith}
 use lib.ListN.{length, set, length-set, replicate, length-replicate, getD-replicate}
 use lib.Seq.{getD-set-same, getD-set-other}
 use Rattle.choice.specs.Choice.{pick, less, same}
-use Rattle.choice.proofs.Rules.{pick-true, pick-false, same-false, true-same, false-same, less-true, less-false, false-less, unrefused}
+use Rattle.choice.proofs.Rules.{pick-true, pick-false, same-false, true-same, false-same, less-true, less-false}
+use Rattle.choice.proofs.Rules.{false-less, unrefused}
 use Rattle.control.specs.declared.Service.{Service}
 use Rattle.control.specs.declared.Service.the-variants.{SdaLow, SdnLow, SdaHigh, SdnHigh, SrdLow, SrdHigh}
 use Rattle.control.specs.declared.Control.the-variants.{Request}
@@ -25,7 +26,8 @@ use Rattle.request.proofs.Laws.{fit}
 use Rattle.state.specs.declared.Priority.{Priority}
 use Rattle.state.specs.declared.Priority.the-variants.{High, Low}
 use Rattle.state.specs.Request.{UNKNOWN, markOf, fcbOf, fcvOf, turned, serviceOf, controlFor}
-use Rattle.state.specs.Counts.{Mark, unknown, next, bitsFor, due, answered, field, destinationIn, controlIn, counts}
+use Rattle.state.specs.Counts.{Mark, unknown, next, bitsFor, due, answered, field, destinationIn, controlIn}
+use Rattle.state.specs.Counts.{counts}
 use Rattle.state.proofs.Cases.{by}
 
 -- ---- what a mark of the station means

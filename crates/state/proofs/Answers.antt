@@ -12,7 +12,8 @@ use Rattle.state.specs.declared.New.{New}
 use Rattle.state.specs.declared.Asks.{Asks}
 use Rattle.state.specs.declared.Asks.the-variants.{Sda, Srd, Sdn, Status, Never}
 use Rattle.state.specs.World.{Event, indicated}
-use Rattle.state.specs.Answering.{Answered, answered, shows, replies, statusEvents, sdnEvents, answerNew, answerCounted, answerAs, answerTo, answer}
+use Rattle.state.specs.Answering.{Answered, answered, shows, replies, statusEvents, sdnEvents, answerNew}
+use Rattle.state.specs.Answering.{answerCounted, answerAs, answerTo, answer}
 use Rattle.state.proofs.Cases.{by}
 
 -- replies and indications

@@ -16,7 +16,8 @@ use Rattle.state.specs.declared.Core.{Core}
 use Rattle.state.specs.declared.Memory.{Memory}
 use Rattle.state.specs.declared.Verdict.{Verdict}
 use Rattle.state.specs.declared.Verdict.the-variants.{Plausible, Vain, Foreign}
-use Rattle.state.specs.Request.{pointOf, swapped, returned, judgedBy, judged}
+use Rattle.frame.specs.Access.{pointOf}
+use Rattle.state.specs.Request.{swapped, returned, judgedBy, judged}
 use Rattle.state.specs.Answering.{reserved, repeated, recalled, replies, answered, answerCounted, shown}
 
 -- ---- two lifts behind one station stay two

@@ -17,7 +17,9 @@ use Rattle.state.specs.declared.Priority.the-variants.{High, Low}
 use Rattle.state.specs.declared.Core.{Core}
 use Rattle.state.specs.declared.Choice.{Choice}
 use Rattle.state.specs.declared.Choice.the-variants.{Serve, PassOn}
-use Rattle.state.specs.World.{Site, World, Event, Done, Called, accepted, begins, ends, sends, confirmed, collected, indicated, resets, refused, still, done, andThen, withDoing, withCore, withSite}
+use Rattle.state.specs.World.{Site, World, Event, Done, Called, accepted, begins, ends, sends, confirmed}
+use Rattle.state.specs.World.{collected, indicated, resets, refused, still, done, andThen, withDoing, withCore}
+use Rattle.state.specs.World.{withSite}
 use Rattle.state.specs.Request.{closeOf, close, judged}
 use Rattle.state.specs.Hold.{choice, rest, token, over, givenUp, concluded}
 use Rattle.state.specs.Calls as Calls

@@ -21,7 +21,8 @@ use Rattle.state.specs.declared.Priority.the-variants.{High, Low}
 use Rattle.state.specs.declared.Doing.{Doing}
 use Rattle.state.specs.declared.Core.{Core}
 use Rattle.state.specs.declared.Kept.{Kept}
-use Rattle.state.specs.World.{World, Event, Done, Called, accepted, refused, done, withQueue, queueOf, withCore, rowsOf, withRows, withSite}
+use Rattle.state.specs.World.{World, Event, Done, Called, accepted, refused, done, withQueue, queueOf, withCore}
+use Rattle.state.specs.World.{rowsOf, withRows, withSite}
 use Rattle.state.specs.Refusals.{oddIn, lawless}
 use Rattle.state.specs.Calls as Calls
 use Rattle.state.specs.Calls.{called, refuse, submitting}

@@ -19,9 +19,12 @@ use Rattle.state.specs.World.{Event, ends, confirmed, resets}
 use Rattle.state.specs.Calls.{sendingsOf, countOf}
 use Rattle.state.specs.Fate.{Fate, confirmedWith, holdEnded, wasReset, fate}
 use Rattle.state.proofs.Phases.{begun-by}
-use Rattle.state.proofs.Places.{current-ours, current-ahead, current-shut, waiting-confirmed, shut-now, shut-confirmed}
-use Rattle.state.proofs.Fates.{fate-one, stays, meets-ends, meets-resets, meets-confirmed, meets-another, Fresh, Paid, Off}
-use Rattle.state.proofs.Standing.{ground-closed, Stage, off, ours, ahead, lower, Standing, Between, waits, shut, gone, stayed-gone}
+use Rattle.state.proofs.Places.{current-ours, current-ahead, current-shut, waiting-confirmed, shut-now}
+use Rattle.state.proofs.Places.{shut-confirmed}
+use Rattle.state.proofs.Fates.{fate-one, stays, meets-ends, meets-resets, meets-confirmed, meets-another}
+use Rattle.state.proofs.Fates.{Fresh, Paid, Off}
+use Rattle.state.proofs.Standing.{ground-closed, Stage, off, ours, ahead, lower, Standing, Between, waits}
+use Rattle.state.proofs.Standing.{shut, gone, stayed-gone}
 
 -- it waits behind d others and is not confirmed; the first of them was sent n times
 pub record Dismissible (limit d n : ℕ) (f : Fate) : Type 0 where

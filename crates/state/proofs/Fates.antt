@@ -10,8 +10,10 @@ use Rattle.frame.specs.declared.Part.{Part}
 use Rattle.request.specs.declared.Record.{Record}
 use Rattle.state.specs.declared.Priority.{Priority}
 use Rattle.state.specs.declared.Priority.the-variants.{High, Low}
-use Rattle.state.specs.World.{aRequest, aToken, aReply, Event, accepted, begins, ends, sends, confirmed, collected, indicated, resets, refused}
-use Rattle.state.specs.Fate.{Fate, newborn, sentOnce, confirmedWith, holdBegun, holdEnded, wasReset, collectedWith, ofHigh, sentWhat, meets, fate}
+use Rattle.state.specs.World.{aRequest, aToken, aReply, Event, accepted, begins, ends, sends, confirmed}
+use Rattle.state.specs.World.{collected, indicated, resets, refused}
+use Rattle.state.specs.Fate.{Fate, newborn, sentOnce, confirmedWith, holdBegun, holdEnded, wasReset}
+use Rattle.state.specs.Fate.{collectedWith, ofHigh, sentWhat, meets, fate}
 use Rattle.state.proofs.Cases.{by}
 
 -- ---- events in a row

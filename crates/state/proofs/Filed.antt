@@ -12,7 +12,8 @@ use Rattle.request.specs.Record.{SIZE, DS, NA, OK, named}
 use Rattle.queue.specs.declared.Queue.{Queue}
 use Rattle.queue.specs.declared.Taken.{Taken}
 use Rattle.queue.specs.Queue.{AREA, Ruled, place, current, closed, grown, confirmed, freed, take, refuse}
-use Rattle.queue.proofs.Laws.{ruled-confirmed, ruled-freed, place-below, place-apart, place-grown, place-confirmed, place-freed}
+use Rattle.queue.proofs.Laws.{ruled-confirmed, ruled-freed, place-below, place-apart, place-grown, place-confirmed}
+use Rattle.queue.proofs.Laws.{place-freed}
 use Rattle.rows.specs.Rows.{Lent, Left, at, put, confirm, submitted}
 use Rattle.rows.proofs.Laws.{by-order, at-put, at-other}
 use Rattle.rows.proofs.Check.{Sound}

@@ -11,9 +11,13 @@ use Rattle.control.specs.declared.Service.{Service}
 use Rattle.control.specs.Control.{counted}
 use Rattle.request.specs.Record.{NA}
 use Rattle.state.specs.declared.Priority.{Priority}
-use Rattle.state.specs.World.{World, aRequest, aToken, aReply, Event, accepted, begins, ends, sends, confirmed, collected, indicated, resets, refused}
+use Rattle.state.specs.World.{World, aRequest, aToken, aReply, Event, accepted, begins, ends, sends, confirmed}
+use Rattle.state.specs.World.{collected, indicated, resets, refused}
 use Rattle.state.specs.Runs.{Call, run, Begun}
-use Rattle.state.specs.Counts.{Mark, unknown, next, bitsFor, due, answered, settled, destinationIn, controlIn, counts, Pending, none, sent, History, unheard, marksBy, alike, closes, goes, heeds, history, Turn, first, again, Rightly, bitsOf, bitsIn, following, unclosed, aims, unaimed, Succession}
+use Rattle.state.specs.Counts.{Mark, unknown, next, bitsFor, due, answered, settled, destinationIn, controlIn}
+use Rattle.state.specs.Counts.{counts, Pending, none, sent, History, unheard, marksBy, alike, closes, goes}
+use Rattle.state.specs.Counts.{heeds, history, Turn, first, again, Rightly, bitsOf, bitsIn, following, unclosed}
+use Rattle.state.specs.Counts.{aims, unaimed, Succession}
 use Rattle.state.proofs.Cases.{by}
 use Rattle.state.proofs.Cases.{Any, any}
 use Rattle.state.proofs.Tally.{Sent, Meets, Counts, counts-split, settled-lost, settled-replied, closes-own}

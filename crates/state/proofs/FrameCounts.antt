@@ -23,7 +23,9 @@ use Rattle.state.specs.declared.Priority.the-variants.{High, Low}
 use Rattle.state.specs.declared.Doing.{Doing}
 use Rattle.state.specs.declared.Choice.the-variants.{Serve}
 use Rattle.state.specs.declared.Outcome.{Outcome as Ending}
-use Rattle.state.specs.World.{Rows, Site, World, Event, aRequest, sends, confirmed, refused, done, withDoing, withStranger, withPs, withQueue, queueOf, withCore, withMasters, withMarks, rowsOf, withRows}
+use Rattle.state.specs.World.{Rows, Site, World, Event, aRequest, sends, confirmed, refused, done, withDoing}
+use Rattle.state.specs.World.{withStranger, withPs, withQueue, queueOf, withCore, withMasters, withMarks}
+use Rattle.state.specs.World.{rowsOf, withRows}
 use Rattle.state.specs.Request.{UNKNOWN, recordIn, recordOf, sendCore, once, statusOf, closeOf}
 use Rattle.state.specs.Pass.{passCore, without}
 use Rattle.state.specs.Hold.{choice, resting, rest, admit}
@@ -36,15 +38,22 @@ use Rattle.state.specs.Counts as C
 use Rattle.state.proofs.Cases.{Any, any}
 use Rattle.state.proofs.Phases.{flight}
 use Rattle.state.proofs.Choices.{saw-high, saw-low}
-use Rattle.state.proofs.Acts.{Point, calm, free, choosing, passing, halting, clearing, Closing, Move, lets-go, rests, notes, admits, drops, spares, renews, Act, opens, serves, stops, quits, passes, repasses, repeats, closes, takes, hands, replies, shows, restarts, breaks, clears-high, clears-low, firstSending, nextSending, closing, sent, sentAgain, grownBy, freedOf}
+use Rattle.state.proofs.Acts.{Point, calm, free, choosing, passing, halting, clearing, Closing, Move, lets-go}
+use Rattle.state.proofs.Acts.{rests, notes, admits, drops, spares, renews, Act, opens, serves, stops, quits}
+use Rattle.state.proofs.Acts.{passes, repasses, repeats, closes, takes, hands, replies, shows, restarts}
+use Rattle.state.proofs.Acts.{breaks, clears-high, clears-low, firstSending, nextSending, closing, sent}
+use Rattle.state.proofs.Acts.{sentAgain, grownBy, freedOf}
 use Rattle.state.proofs.Acts as Acts
 use Rattle.state.proofs.Keeping.{Account, Right, kept-run}
 use Rattle.state.proofs.Standing.{sending-flight, sending-served, passing-flight}
-use Rattle.state.proofs.Poise.{queueBy, Loaded, FirmAt, AptAt, Poised, poised-apt, poise, served-some, closing-flight}
+use Rattle.state.proofs.Poise.{queueBy, Loaded, FirmAt, AptAt, Poised, poised-apt, poise, served-some}
+use Rattle.state.proofs.Poise.{closing-flight}
 use Rattle.state.proofs.Ordered.{poised}
 use Rattle.state.proofs.Start.{begun-orderly, begun-marks}
 use Rattle.state.proofs.Agreed.{agree-unknown}
-use Rattle.state.proofs.Tally.{Sent, Meets, Counts, counts-split, rowsBy, goingIn, Fits, FitsAt, Rests, at-rest, rested, first-fit, goes-rightly, Suits, gone, lost, replied, closes-own, agree-closed, going-grown, going-freed}
+use Rattle.state.proofs.Tally.{Sent, Meets, Counts, counts-split, rowsBy, goingIn, Fits, FitsAt, Rests}
+use Rattle.state.proofs.Tally.{at-rest, rested, first-fit, goes-rightly, Suits, gone, lost, replied}
+use Rattle.state.proofs.Tally.{closes-own, agree-closed, going-grown, going-freed}
 
 -- ---- how the history stands at each point of a call: between calls as the phase says; within one nothing is pending; and
 -- in a reset all is forgotten

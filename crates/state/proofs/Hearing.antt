@@ -23,9 +23,9 @@ use Rattle.frame.specs.declared.Fields.the-variants.{Token, Short, Frame}
 use Rattle.frame.specs.declared.Answer.the-variants.{Read}
 use Rattle.frame.specs.Format.{extension, unit, body, closing, sd1, sd2, framed, octets, unwritable, unwritableToken}
 use Rattle.frame.specs.Reading.{read, shown}
-use Rattle.laws.proofs.Body.{writable}
-use Rattle.laws.proofs.Accepted.{accepted, accepted-carried}
-use Rattle.laws.proofs.Theorems.{read-writable}
+use Rattle.frame_laws.proofs.Body.{writable}
+use Rattle.frame_laws.proofs.Accepted.{accepted, accepted-carried}
+use Rattle.frame_laws.proofs.Theorems.{read-writable}
 use Rattle.request.specs.declared.Record.{Record}
 use Rattle.request.specs.Record.{NA, named}
 use Rattle.queue.specs.Queue.{AREA}
@@ -41,7 +41,8 @@ use Rattle.state.specs.declared.Verdict.the-variants.{Plausible, Vain, F
 use Rattle.state.specs.World.{World, Event}
 use Rattle.state.specs.Request.{judgedBy, judged}
 use Rattle.state.specs.Answering as A
-use Rattle.state.specs.Answering.{Answered, answered, replyHead, replyOctets, remembered, answerNew, answerCounted, answerAs, answerTo, answer}
+use Rattle.state.specs.Answering.{Answered, answered, replyHead, replyOctets, remembered, answerNew}
+use Rattle.state.specs.Answering.{answerCounted, answerAs, answerTo, answer}
 use Rattle.state.specs.Refusals.{cramped, refusalIn, refusal}
 use Rattle.state.proofs.Cases.{by}
 

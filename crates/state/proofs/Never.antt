@@ -20,7 +20,8 @@ use Rattle.queue.proofs.Laws.{not-overfull}
 use Rattle.rows.specs.Rows.{Left, at, stored, submitted, handed}
 use Rattle.state.specs.declared.Priority.{Priority}
 use Rattle.state.specs.declared.Priority.the-variants.{High, Low}
-use Rattle.state.specs.World.{Rows, Site, World, Event, Done, Called, accepted, begins, ends, sends, confirmed, collected, indicated, resets, refused, done, queueOf, rowsOf}
+use Rattle.state.specs.World.{Rows, Site, World, Event, Done, Called, accepted, begins, ends, sends, confirmed}
+use Rattle.state.specs.World.{collected, indicated, resets, refused, done, queueOf, rowsOf}
 use Rattle.state.specs.Refusals.{lawless}
 use Rattle.state.specs.Calls as Calls
 use Rattle.state.specs.Calls.{called, refuse, submitting, collecting}

@@ -3,6 +3,7 @@
 use mathlib.Core.Bool.{Bool, true}
 use Rattle.choice.specs.Choice as Choice
 use Rattle.control.specs.Control as Control
+use Rattle.frame.specs.Access as Access
 use Rattle.frame.specs.Format as Format
 use Rattle.frame.specs.Reading as Reading
 use Rattle.clock.specs.Clock as Clock
@@ -39,7 +40,7 @@ times = true
 
 -- the ring, and rows of records
 unfoldable pub rows : Bool
-unfolding tests Ring.member Ring.on Ring.seek Ring.nextOf Ring.previousOf Ring.enter Laid.laid Record.named Record.accessOf Record.octets Record.recordAt Record.misaddressed Record.beyond Record.mispointed Record.unserved Record.extensions Record.overlong Record.unfit Queue.place Queue.unlike Queue.misfit Queue.above Queue.overfull Queue.closed Queue.grown Queue.take Queue.taken Queue.current Queue.confirmed Queue.freed Queue.collected Rows.at Rows.content Rows.put Rows.fill Rows.stored Rows.submitted Rows.confirm Rows.handed Rows.sound
+unfolding tests Ring.member Ring.on Ring.seek Ring.nextOf Ring.previousOf Ring.enter Laid.laid Record.named Access.accessOf Access.pointOf Record.octets Record.recordAt Record.misaddressed Record.beyond Record.mispointed Record.unserved Record.extensions Record.overlong Record.unfit Queue.place Queue.unlike Queue.misfit Queue.above Queue.overfull Queue.closed Queue.grown Queue.take Queue.taken Queue.current Queue.confirmed Queue.freed Queue.collected Rows.at Rows.content Rows.put Rows.fill Rows.stored Rows.submitted Rows.confirm Rows.handed Rows.sound
 rows = true
 
 -- the acts of a station

@@ -19,7 +19,8 @@ use Rattle.state.specs.declared.Priority.{Priority}
 use Rattle.state.specs.declared.Priority.the-variants.{High, Low}
 use Rattle.state.specs.declared.Core.{Core}
 use Rattle.state.specs.World.{World, queueOf}
-use Rattle.state.specs.Refusals.{unstartable, unstarted, misaddressed, overcounted, oddIn, lawless, soundIn, unlikeIn, inFlight, unsound, refusalIn, refusal}
+use Rattle.state.specs.Refusals.{unstartable, unstarted, misaddressed, overcounted, oddIn, lawless, soundIn}
+use Rattle.state.specs.Refusals.{unlikeIn, inFlight, unsound, refusalIn, refusal}
 use Rattle.state.proofs.Cases.{by}
 use Rattle.state.proofs.Phases.{flight, odd-by, unlike-off}
 use Rattle.state.proofs.Hearing.{Memorable}

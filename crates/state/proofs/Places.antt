@@ -12,7 +12,8 @@ use Rattle.request.specs.declared.Record.{Record}
 use Rattle.request.specs.Record.{SIZE}
 use Rattle.queue.specs.declared.Queue.{Queue}
 use Rattle.queue.specs.Queue.{Ruled, place, current, closed, grown, confirmed, freed}
-use Rattle.queue.proofs.Laws.{ruled-grown, ruled-confirmed, ruled-freed, place-below, place-apart, place-grown, place-confirmed, place-freed}
+use Rattle.queue.proofs.Laws.{ruled-grown, ruled-confirmed, ruled-freed, place-below, place-apart, place-grown}
+use Rattle.queue.proofs.Laws.{place-confirmed, place-freed}
 use Rattle.rows.specs.Rows.{at, put, confirm}
 use Rattle.rows.proofs.Laws.{at-put, at-other, length-put}
 use Rattle.state.proofs.Cases.{by, positive}

@@ -25,7 +25,8 @@ use Rattle.state.specs.declared.Doing.{Doing}
 use Rattle.state.specs.declared.Core.{Core}
 use Rattle.state.specs.declared.Choice.the-variants.{Serve}
 use Rattle.state.specs.declared.Outcome.{Outcome}
-use Rattle.state.specs.World.{Rows, Site, Event, done, withDoing, withHold, withStranger, withPs, withQueue, queueOf, withCore, withMasters, withMarks, rowsOf, withRows}
+use Rattle.state.specs.World.{Rows, Site, Event, done, withDoing, withHold, withStranger, withPs, withQueue}
+use Rattle.state.specs.World.{queueOf, withCore, withMasters, withMarks, rowsOf, withRows}
 use Rattle.state.specs.Request.{recordIn, sending, sendCore, once, statusOf, closeOf}
 use Rattle.state.specs.Pass.{ns, passing as passingOn, passCore, psWithout, without}
 use Rattle.state.specs.Hold.{choice, resting, rest, beginning, admit}
@@ -34,7 +35,11 @@ use Rattle.state.specs.Calls.{freshCore}
 use Rattle.state.proofs.Cases.{by, Any, any}
 use Rattle.state.proofs.Phases.{flight, checking, selfing}
 use Rattle.state.proofs.Choices.{saw-high, saw-low}
-use Rattle.state.proofs.Acts.{Point, calm, free, choosing, passing, halting, clearing, Closing, replied, lost, gone, Move, lets-go, rests, notes, admits, drops, spares, renews, Act, opens, serves, stops, quits, passes, repasses, repeats, closes, takes, hands, replies, shows, restarts, breaks, clears-high, clears-low, sent, sentAgain, taking, grownBy, freedOf}
+use Rattle.state.proofs.Acts.{Point, calm, free, choosing, passing, halting, clearing, Closing, replied, lost}
+use Rattle.state.proofs.Acts.{gone, Move, lets-go, rests, notes, admits, drops, spares, renews, Act, opens}
+use Rattle.state.proofs.Acts.{serves, stops, quits, passes, repasses, repeats, closes, takes, hands, replies}
+use Rattle.state.proofs.Acts.{shows, restarts, breaks, clears-high, clears-low, sent, sentAgain, taking}
+use Rattle.state.proofs.Acts.{grownBy, freedOf}
 use Rattle.state.proofs.Keeping.{Ground}
 use Rattle.state.proofs.Filed.{Filed, filed-confirmed, filed-taken, filed-freed, named-OK, named-NA, named-DS}
 

@@ -10,7 +10,10 @@ use Rattle.rows.specs.Rows.{confirm}
 use Rattle.state.specs.declared.Priority.{Priority}
 use Rattle.state.specs.declared.Priority.the-variants.{High, Low}
 use Rattle.state.specs.declared.Doing.{Doing}
-use Rattle.state.specs.World.{Site, World, What, aRequest, aToken, aReply, Event, accepted, begins, ends, sends, confirmed, collected, indicated, resets, refused, done, withDoing, withHold, withStranger, withPs, withQueue, queueOf, withCore, withMasters, withMarks, rowsOf, withRows}
+use Rattle.state.specs.World.{Site, World, What, aRequest, aToken, aReply, Event, accepted, begins, ends, sends}
+use Rattle.state.specs.World.{confirmed, collected, indicated, resets, refused, done, withDoing, withHold}
+use Rattle.state.specs.World.{withStranger, withPs, withQueue, queueOf, withCore, withMasters, withMarks}
+use Rattle.state.specs.World.{rowsOf, withRows}
 use Rattle.state.specs.Request.{sendCore, once, closeOf}
 use Rattle.state.specs.Pass.{passCore, without}
 use Rattle.state.specs.Hold.{resting, rest, beginning, admit}
@@ -21,7 +24,10 @@ use Rattle.state.specs.Precedence.{Line, nobody, joined, sentBy, served,
 use Rattle.state.proofs.Cases.{Any, any}
 use Rattle.state.proofs.Phases.{flight}
 use Rattle.state.proofs.Choices.{saw-low}
-use Rattle.state.proofs.Acts.{Point, calm, free, choosing, passing, halting, clearing, Move, lets-go, rests, notes, admits, drops, spares, renews, Act, opens, serves, stops, quits, passes, repasses, repeats, closes, takes, hands, replies, shows, restarts, breaks, clears-high, clears-low}
+use Rattle.state.proofs.Acts.{Point, calm, free, choosing, passing, halting, clearing, Move, lets-go, rests}
+use Rattle.state.proofs.Acts.{notes, admits, drops, spares, renews, Act, opens, serves, stops, quits, passes}
+use Rattle.state.proofs.Acts.{repasses, repeats, closes, takes, hands, replies, shows, restarts, breaks}
+use Rattle.state.proofs.Acts.{clears-high, clears-low}
 use Rattle.state.proofs.Keeping.{ungrounded, Account, met}
 use Rattle.state.proofs.Standing.{sending-served, passing-flight}
 use Rattle.state.proofs.Start.{begun-queues, begun-marks}

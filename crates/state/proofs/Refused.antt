@@ -8,14 +8,18 @@ use Rattle.laid.proofs.Laws.{laid-nil}
 use Rattle.frame.specs.declared.Answer.{Answer as Reading}
 use Rattle.state.specs.declared.Phase.{Phase}
 use Rattle.state.specs.declared.Indication.the-variants.{None}
-use Rattle.state.specs.World.{Site, World, Event, Done, Called, accepted, begins, ends, sends, confirmed, collected, indicated, resets, refused}
+use Rattle.state.specs.World.{Site, World, Event, Done, Called, accepted, begins, ends, sends, confirmed}
+use Rattle.state.specs.World.{collected, indicated, resets, refused}
 use Rattle.state.specs.Hold.{token}
 use Rattle.state.specs.Answering as A
 use Rattle.state.specs.Told.{telling, untold, adds}
 use Rattle.state.specs.Calls.{refuse, awaitedRead, sentIn, slotIn, resetting}
 use Rattle.state.specs.Runs.{Call, call}
-use Rattle.state.proofs.Acts.{Point, calm, Act, opens, serves, stops, quits, passes, repasses, repeats, closes, takes, hands, replies, shows, restarts, breaks, clears-high, clears-low, Trail, stop, move, act}
-use Rattle.state.proofs.Walk.{Goes, goes-token, goes-awaited, goes-sent, goes-slot, trail-resetting, Carried, Course, declined, carried, course}
+use Rattle.state.proofs.Acts.{Point, calm, Act, opens, serves, stops, quits, passes, repasses, repeats, closes}
+use Rattle.state.proofs.Acts.{takes, hands, replies, shows, restarts, breaks, clears-high, clears-low, Trail}
+use Rattle.state.proofs.Acts.{stop, move, act}
+use Rattle.state.proofs.Walk.{Goes, goes-token, goes-awaited, goes-sent, goes-slot, trail-resetting, Carried}
+use Rattle.state.proofs.Walk.{Course, declined, carried, course}
 
 -- a refusal is among the events
 unfoldable pub refuses : List Event → Bool

@@ -9,7 +9,9 @@ use Rattle.queue.specs.Queue.{Ruled, place, current, grown, freed, take}
 use Rattle.rows.specs.Rows.{confirm}
 use Rattle.state.specs.declared.Priority.{Priority}
 use Rattle.state.specs.declared.Priority.the-variants.{High, Low}
-use Rattle.state.specs.World.{Site, World, Event, accepted, confirmed, refused, done, withDoing, withHold, withStranger, withPs, withQueue, queueOf, withCore, withMasters, withMarks, rowsOf, withRows}
+use Rattle.state.specs.World.{Site, World, Event, accepted, confirmed, refused, done, withDoing, withHold}
+use Rattle.state.specs.World.{withStranger, withPs, withQueue, queueOf, withCore, withMasters, withMarks}
+use Rattle.state.specs.World.{rowsOf, withRows}
 use Rattle.state.specs.Request.{sendCore, closeOf}
 use Rattle.state.specs.Pass.{passCore, without}
 use Rattle.state.specs.Hold.{rest, beginning, admit}
@@ -18,13 +20,17 @@ use Rattle.state.specs.Calls.{emptyQueue, freshCore}
 use Rattle.state.specs.Runs.{Call, run, Begun}
 use Rattle.state.proofs.Cases.{Any, any}
 use Rattle.state.proofs.Phases.{flight}
-use Rattle.state.proofs.Acts.{Point, Move, lets-go, rests, notes, admits, drops, spares, renews, Act, opens, serves, stops, quits, passes, repasses, repeats, closes, takes, hands, replies, shows, restarts, breaks, clears-high, clears-low}
+use Rattle.state.proofs.Acts.{Point, Move, lets-go, rests, notes, admits, drops, spares, renews, Act, opens}
+use Rattle.state.proofs.Acts.{serves, stops, quits, passes, repasses, repeats, closes, takes, hands, replies}
+use Rattle.state.proofs.Acts.{shows, restarts, breaks, clears-high, clears-low}
 use Rattle.state.proofs.Keeping.{Account, kept-run}
 use Rattle.state.proofs.Poise.{queueBy, Poised, poised-apt, poise, served-some, closing-flight}
 use Rattle.state.proofs.Order.{queue-by}
 use Rattle.state.proofs.Ordered.{poised}
 use Rattle.state.proofs.Start.{begun-orderly, begun-queues}
-use Rattle.state.proofs.Turns.{acceptances, confirmations, placesFrom, line, line-grown, line-confirmed, line-freed, Turns, turns-then, mute, turns-mute, turns-confirmed, turns-accepted, turns-other-confirmed, turns-other-accepted, other}
+use Rattle.state.proofs.Turns.{acceptances, confirmations, placesFrom, line, line-grown, line-confirmed}
+use Rattle.state.proofs.Turns.{line-freed, Turns, turns-then, mute, turns-mute, turns-confirmed}
+use Rattle.state.proofs.Turns.{turns-accepted, turns-other-confirmed, turns-other-accepted, other}
 
 -- ---- one confirmation, one acceptance, of a queue or of the other
 module _ (h l : Queue) where

@@ -14,15 +14,19 @@ use Rattle.state.specs.declared.Priority.the-variants.{High, Low}
 use Rattle.state.specs.declared.Doing.{Doing}
 use Rattle.state.specs.declared.Core.{Core}
 use Rattle.state.specs.declared.Outcome.{Outcome}
-use Rattle.state.specs.World.{Site, Event, aRequest, sends, confirmed, begins, ends, done, withDoing, withQueue, queueOf, withCore, withMarks, rowsOf, withRows}
+use Rattle.state.specs.World.{Site, Event, aRequest, sends, confirmed, begins, ends, done, withDoing, withQueue}
+use Rattle.state.specs.World.{queueOf, withCore, withMarks, rowsOf, withRows}
 use Rattle.state.specs.Request.{sending, sendCore, once, statusOf, closeOf}
 use Rattle.state.specs.Pass.{passing as passingOn}
 use Rattle.state.specs.Fate.{Fate, sentOnce, confirmedWith, holdBegun, holdEnded, fate}
 use Rattle.state.proofs.Cases.{by}
 use Rattle.state.proofs.Phases.{flight}
 use Rattle.state.proofs.Acts.{firstSending, nextSending, closing, sent, sentAgain}
-use Rattle.state.proofs.Places.{Waiting, Shut, Rowed, current-ours, current-ahead, current-shut, waiting-confirmed, shut-now, shut-confirmed, rowed-confirmed}
-use Rattle.state.proofs.Fates.{frozen, fate-one, stays, meets-sent, meets-other, meets-low, meets-begins, meets-ends, meets-confirmed, meets-another, meets-lower, Fresh, Paid, Gone, Off, Pausing, fresh-sent, fresh-begun, paid-now, paid-begun, paid-ended, off-ended}
+use Rattle.state.proofs.Places.{Waiting, Shut, Rowed, current-ours, current-ahead, current-shut}
+use Rattle.state.proofs.Places.{waiting-confirmed, shut-now, shut-confirmed, rowed-confirmed}
+use Rattle.state.proofs.Fates.{frozen, fate-one, stays, meets-sent, meets-other, meets-low, meets-begins}
+use Rattle.state.proofs.Fates.{meets-ends, meets-confirmed, meets-another, meets-lower, Fresh, Paid, Gone, Off}
+use Rattle.state.proofs.Fates.{Pausing, fresh-sent, fresh-begun, paid-now, paid-begun, paid-ended, off-ended}
 
 -- the retry limit, and the high queue with its row in order
 pub record Ground (limit : ℕ) (t : Settings) (q : Queue) (row : List ℕ) : Type 0 where

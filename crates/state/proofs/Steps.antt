@@ -17,7 +17,8 @@ use Rattle.queue.proofs.Laws.{Accepted}
 use Rattle.rows.specs.Rows.{at, put, confirm}
 use Rattle.state.specs.declared.Priority.the-variants.{High, Low}
 use Rattle.state.specs.declared.Doing.{Doing}
-use Rattle.state.specs.World.{Site, World, Event, Called, collected, withDoing, withHold, withStranger, withPs, withQueue, queueOf, withCore, withMasters, rowsOf, withRows}
+use Rattle.state.specs.World.{Site, World, Event, Called, collected, withDoing, withHold, withStranger, withPs}
+use Rattle.state.specs.World.{withQueue, queueOf, withCore, withMasters, rowsOf, withRows}
 use Rattle.state.specs.Request.{once}
 use Rattle.state.specs.Pass.{passCore, without}
 use Rattle.state.specs.Hold.{rest, resting, beginning, admit}
@@ -28,12 +29,20 @@ use Rattle.state.specs.Fate.{Fate, meets, fate, collectedWith}
 use Rattle.state.proofs.Cases.{Any, any}
 use Rattle.state.proofs.Phases.{flight}
 use Rattle.state.proofs.Choices.{saw-high, saw-low, saw-none}
-use Rattle.state.proofs.Acts.{Point, calm, free, choosing, passing, halting, clearing, Move, lets-go, rests, notes, admits, drops, spares, renews, Act, opens, serves, stops, quits, passes, repasses, repeats, closes, takes, hands, replies, shows, restarts, breaks, clears-high, clears-low, freedOf}
+use Rattle.state.proofs.Acts.{Point, calm, free, choosing, passing, halting, clearing, Move, lets-go, rests}
+use Rattle.state.proofs.Acts.{notes, admits, drops, spares, renews, Act, opens, serves, stops, quits, passes}
+use Rattle.state.proofs.Acts.{repasses, repeats, closes, takes, hands, replies, shows, restarts, breaks}
+use Rattle.state.proofs.Acts.{clears-high, clears-low, freedOf}
 use Rattle.state.proofs.Keeping.{ungrounded, Account, kept-run}
 use Rattle.state.proofs.Poise.{closing-flight}
-use Rattle.state.proofs.Places.{waiting-grown, waiting-freed, shut-grown, shut-freed, first-waiting, rowed-grown, rowed-freed}
-use Rattle.state.proofs.Fates.{fate-none, fate-one, fate-append, stays, meets-reply, meets-token, meets-lower, meets-collected, meets-uncollected, meets-low-collected, meets-accepted, meets-indicated, meets-refused, Off, Pausing, gone-now}
-use Rattle.state.proofs.Standing.{Afloat, Standing, Opening, waits, shut, gone, StandsAt, BetweenAt, at-rest, rested, passing-flight, still-gone, low-sent, high-sent, after-end, opened, close-high, close-low, again-high, again-low}
+use Rattle.state.proofs.Places.{waiting-grown, waiting-freed, shut-grown, shut-freed, first-waiting}
+use Rattle.state.proofs.Places.{rowed-grown, rowed-freed}
+use Rattle.state.proofs.Fates.{fate-none, fate-one, fate-append, stays, meets-reply, meets-token, meets-lower}
+use Rattle.state.proofs.Fates.{meets-collected, meets-uncollected, meets-low-collected, meets-accepted}
+use Rattle.state.proofs.Fates.{meets-indicated, meets-refused, Off, Pausing, gone-now}
+use Rattle.state.proofs.Standing.{Afloat, Standing, Opening, waits, shut, gone, StandsAt, BetweenAt, at-rest}
+use Rattle.state.proofs.Standing.{rested, passing-flight, still-gone, low-sent, high-sent, after-end, opened}
+use Rattle.state.proofs.Standing.{close-high, close-low, again-high, again-low}
 use Rattle.state.proofs.Drained.{Emptying, emptying-resets, emptying-ends, emptying-high, emptied}
 
 -- a call keeps how it stands

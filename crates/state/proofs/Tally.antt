@@ -22,14 +22,17 @@ use Rattle.state.specs.declared.Priority.the-variants.{High, Low}
 use Rattle.state.specs.declared.Doing.{Doing}
 use Rattle.state.specs.declared.Outcome.{Outcome}
 use Rattle.state.specs.declared.Outcome.the-variants.{Replied, Lost, Gone}
-use Rattle.state.specs.World.{Rows, Site, What, aRequest, aToken, aReply, Event, accepted, begins, ends, sends, confirmed, collected, indicated, resets, refused}
+use Rattle.state.specs.World.{Rows, Site, What, aRequest, aToken, aReply, Event, accepted, begins, ends, sends}
+use Rattle.state.specs.World.{confirmed, collected, indicated, resets, refused}
 use Rattle.state.specs.Request.{UNKNOWN, headFor, recordIn, dataIn, octetsIn, serviceOf, statusOf, marksAfter}
-use Rattle.state.specs.Counts.{Mark, answered, settled, destinationIn, controlIn, counts, Pending, none, sent, History, marksBy, alike, closes, heeds, history, Turn, Rightly}
+use Rattle.state.specs.Counts.{Mark, answered, settled, destinationIn, controlIn, counts, Pending, none, sent}
+use Rattle.state.specs.Counts.{History, marksBy, alike, closes, heeds, history, Turn, Rightly}
 use Rattle.state.proofs.Phases.{flight}
 use Rattle.state.proofs.Cases.{Any}
 use Rattle.state.proofs.Filed.{Filed}
 use Rattle.state.proofs.Poise.{queueBy}
-use Rattle.state.proofs.Agreed.{Agree, agree-set, agree-like, meaning-unknown, meaning-turned, destination-octets, control-octets, near, nearer, due-control, counts-control}
+use Rattle.state.proofs.Agreed.{Agree, agree-set, agree-like, meaning-unknown, meaning-turned}
+use Rattle.state.proofs.Agreed.{destination-octets, control-octets, near, nearer, due-control, counts-control}
 
 -- ---- what is asked of events in a row: of each sending of a request, that it goes rightly
 unfoldable pub Sent : What → List ℕ → History → Type 0

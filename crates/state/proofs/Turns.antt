@@ -11,7 +11,8 @@ use Rattle.queue.specs.Queue as Q
 use Rattle.queue.proofs.Laws.{place-grown, place-confirmed, place-freed}
 use Rattle.state.specs.declared.Priority.{Priority}
 use Rattle.state.specs.declared.Priority.the-variants.{High, Low}
-use Rattle.state.specs.World.{Event, accepted, begins, ends, sends, confirmed, collected, indicated, resets, refused}
+use Rattle.state.specs.World.{Event, accepted, begins, ends, sends, confirmed, collected, indicated, resets}
+use Rattle.state.specs.World.{refused}
 
 -- a place of the queue y, if the request is of that queue
 unfoldable pub ofQueue : Priority → Priority → ℕ → List ℕ

@@ -17,7 +17,10 @@ use Rattle.state.specs.declared.Priority.{Priority}
 use Rattle.state.specs.declared.Priority.the-variants.{High, Low}
 use Rattle.state.specs.declared.Doing.{Doing}
 use Rattle.state.specs.declared.Core.{Core}
-use Rattle.state.specs.World.{Rows, Site, World, What, aRequest, aToken, aReply, Event, accepted, begins, ends, sends, confirmed, collected, indicated, resets, refused, done, withDoing, withHold, withStranger, withPs, withQueue, queueOf, withCore, withMasters, withMarks, rowsOf, withRows}
+use Rattle.state.specs.World.{Rows, Site, World, What, aRequest, aToken, aReply, Event, accepted, begins, ends}
+use Rattle.state.specs.World.{sends, confirmed, collected, indicated, resets, refused, done, withDoing}
+use Rattle.state.specs.World.{withHold, withStranger, withPs, withQueue, queueOf, withCore, withMasters}
+use Rattle.state.specs.World.{withMarks, rowsOf, withRows}
 use Rattle.state.specs.Request.{headFor, recordIn, octetsIn, afterLast, waitFor, sending, sendCore, once, closeOf}
 use Rattle.state.specs.Pass.{passing as passingOn, passCore, without}
 use Rattle.state.specs.Hold.{resting, rest, beginning, admit}
@@ -28,7 +31,10 @@ use Rattle.state.specs.Counts.{controlIn, counts}
 use Rattle.state.specs.Waits.{sdnBy, sdnAfter, sdnLast, waitDue}
 use Rattle.state.proofs.Cases.{by, Any, any}
 use Rattle.state.proofs.Phases.{flight, checking, awaiting}
-use Rattle.state.proofs.Acts.{Point, calm, free, choosing, passing, halting, clearing, Move, lets-go, rests, notes, admits, drops, spares, renews, Act, opens, serves, stops, quits, passes, repasses, repeats, closes, takes, hands, replies, shows, restarts, breaks, clears-high, clears-low}
+use Rattle.state.proofs.Acts.{Point, calm, free, choosing, passing, halting, clearing, Move, lets-go, rests}
+use Rattle.state.proofs.Acts.{notes, admits, drops, spares, renews, Act, opens, serves, stops, quits, passes}
+use Rattle.state.proofs.Acts.{repasses, repeats, closes, takes, hands, replies, shows, restarts, breaks}
+use Rattle.state.proofs.Acts.{clears-high, clears-low}
 use Rattle.state.proofs.Keeping.{Account, met}
 use Rattle.state.proofs.Poise.{queueBy, Poised, poised-apt, poise, closing-flight}
 use Rattle.state.proofs.Ordered.{poised}

@@ -6,7 +6,8 @@ use mathlib.Core.Path.{_≡_, refl, sym, ap, _∙_}
 use mathlib.Core.List.{List, [], _∷_, _++_}
 use native.Mathlib.Omega.{arith}
 use lib.ListN.{length}
-use Rattle.choice.proofs.Rules.{pick-true, pick-false, true-same, false-same, true-less, false-less, unrefused, not-turned, is-said}
+use Rattle.choice.proofs.Rules.{pick-true, pick-false, true-same, false-same, true-less, false-less, unrefused}
+use Rattle.choice.proofs.Rules.{not-turned, is-said}
 use Rattle.frame.specs.declared.Part.{Part}
 use Rattle.frame.specs.declared.Fields.{Fields}
 use Rattle.frame.specs.declared.Fields.the-variants.{Token, Short, Frame}
@@ -35,22 +36,28 @@ use Rattle.state.specs.declared.Choice.the-variants.{Serve, PassOn}
 use Rattle.state.specs.declared.Outcome.{Outcome as Ending}
 use Rattle.state.specs.declared.Verdict.{Verdict}
 use Rattle.state.specs.declared.Verdict.the-variants.{Plausible, Vain, Foreign}
-use Rattle.state.specs.World.{Site, World, Event, Done, Called, refused, still, done, andThen, withQueue, queueOf, withCore, rowsOf, withRows, withSite, withMemory}
+use Rattle.state.specs.World.{Site, World, Event, Done, Called, refused, still, done, andThen, withQueue}
+use Rattle.state.specs.World.{queueOf, withCore, rowsOf, withRows, withSite, withMemory}
 use Rattle.state.specs.Request.{sendEvents, send, againEvents, againOf, again, closeOf, close}
 use Rattle.state.specs.Pass.{passEvents, pass, passAgain, recheck}
-use Rattle.state.specs.Hold.{choice, finish, chosen, choose, rest, begin, token, ended, retry, over, givenUp, concluded}
+use Rattle.state.specs.Hold.{choice, finish, chosen, choose, rest, begin, token, ended, retry, over, givenUp}
+use Rattle.state.specs.Hold.{concluded}
 use Rattle.state.specs.Answering.{Answered}
 use Rattle.state.specs.Refusals.{unstarted, lawless}
 use Rattle.state.specs.Calls as Calls
-use Rattle.state.specs.Calls.{called, replying, refuse, nothing, submitting, collecting, idle, idleRead, awaitedRead, heard, sentIn, slotIn, dismissed, dismissal, broken, countOf, drained, forgotten, freshWorld, resetting}
+use Rattle.state.specs.Calls.{called, replying, refuse, nothing, submitting, collecting, idle, idleRead}
+use Rattle.state.specs.Calls.{awaitedRead, heard, sentIn, slotIn, dismissed, dismissal, broken, countOf}
+use Rattle.state.specs.Calls.{drained, forgotten, freshWorld, resetting}
 use Rattle.state.specs.Runs.{Call, call}
 use Rattle.state.specs.Runs.Call.{submit, frame, sent, slot, reset, collect}
 use Rattle.state.proofs.Cases.{by, Any, any, positive}
 use Rattle.state.proofs.Phases.{flight, broken-by}
-use Rattle.state.proofs.Acts.{Point, calm, free, choosing, passing, halting, clearing, Closing, Move, Trail, stop, move, act, filled}
+use Rattle.state.proofs.Acts.{Point, calm, free, choosing, passing, halting, clearing, Closing, Move, Trail}
+use Rattle.state.proofs.Acts.{stop, move, act, filled}
 use Rattle.state.proofs.Acts as Acts
 use Rattle.state.proofs.Answers.{Answers, none, replied, shown, Answering, answering-answer}
-use Rattle.state.proofs.Hearing.{Memorable, Lawful, statusBy, Minds, minds-answer, read-token, read-source, lawful-judged, short-updates}
+use Rattle.state.proofs.Hearing.{Memorable, Lawful, statusBy, Minds, minds-answer, read-token, read-source}
+use Rattle.state.proofs.Hearing.{lawful-judged, short-updates}
 use Rattle.state.proofs.Places.{fewer}
 
 -- ---- the site

@@ -6,7 +6,8 @@ use mathlib.Core.List.{List, [], _∷_, _++_}
 use lib.ListN.{length, getD, take}
 use Rattle.choice.specs.Choice.{pick, less, same, said}
 use Rattle.control.specs.declared.Service.{Service}
-use Rattle.control.specs.declared.Service.the-variants.{SdaLow, SdnLow, SdaHigh, SdnHigh, Status, SrdLow, SrdHigh, Ident, Lsap}
+use Rattle.control.specs.declared.Service.the-variants.{SdaLow, SdnLow, SdaHigh, SdnHigh, Status, SrdLow, SrdHigh}
+use Rattle.control.specs.declared.Service.the-variants.{Ident, Lsap}
 use Rattle.control.specs.declared.Code.{Code}
 use Rattle.control.specs.declared.Code.the-variants.{Ok, Rr, Rs, Dl, Dh, Rdl, Rdh}
 use Rattle.control.specs.declared.Kind.the-variants.{InRing}

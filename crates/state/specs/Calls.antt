@@ -30,7 +30,9 @@ use Rattle.state.specs.declared.Core.{Core}
 use Rattle.state.specs.declared.Memory.{Memory}
 use Rattle.state.specs.declared.State.{State}
 use Rattle.state.specs.declared.Outcome.the-variants.{Gone}
-use Rattle.state.specs.World.{Rows, Site, World, Event, Done, Called, accepted, ends, confirmed, collected, resets, refused, still, done, andThen, withQueue, queueOf, withCore, rowsOf, withRows, withSite, withMemory, stateOf}
+use Rattle.state.specs.World.{Rows, Site, World, Event, Done, Called, accepted, ends, confirmed, collected}
+use Rattle.state.specs.World.{resets, refused, still, done, andThen, withQueue, queueOf, withCore, rowsOf}
+use Rattle.state.specs.World.{withRows, withSite, withMemory, stateOf}
 use Rattle.state.specs.Request.{UNKNOWN, recordOf, judged}
 use Rattle.state.specs.Pass.{recheck}
 use Rattle.state.specs.Hold.{NOBODY, ended, rest, begin, token, retry, concluded}

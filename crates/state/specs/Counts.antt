@@ -15,7 +15,8 @@ use Rattle.frame.specs.Reading.{octet}
 use Rattle.request.specs.Record.{NA}
 use Rattle.state.specs.declared.Priority.{Priority}
 use Rattle.state.specs.declared.Priority.the-variants.{High, Low}
-use Rattle.state.specs.World.{What, aRequest, aToken, aReply, Event, accepted, begins, ends, sends, confirmed, collected, indicated, resets, refused}
+use Rattle.state.specs.World.{What, aRequest, aToken, aReply, Event, accepted, begins, ends, sends, confirmed}
+use Rattle.state.specs.World.{collected, indicated, resets, refused}
 
 -- "a frame count mark for each of the 127 addresses: unknown, or the next bit"
 pub data Mark : Type 0 where

@@ -8,7 +8,8 @@ use Rattle.choice.specs.Choice.{pick, same}
 use Rattle.request.specs.declared.Record.{Record}
 use Rattle.state.specs.declared.Priority.{Priority}
 use Rattle.state.specs.declared.Priority.the-variants.{High, Low}
-use Rattle.state.specs.World.{What, aRequest, aToken, aReply, Event, accepted, begins, ends, sends, confirmed, collected, indicated, resets, refused}
+use Rattle.state.specs.World.{What, aRequest, aToken, aReply, Event, accepted, begins, ends, sends, confirmed}
+use Rattle.state.specs.World.{collected, indicated, resets, refused}
 
 -- how often it was sent and confirmed, the count of its confirmation, the holds that began after its acceptance and ended,
 -- whether such a hold is on, whether a reset came, whether its record was collected, and the count shown then

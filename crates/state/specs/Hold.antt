@@ -17,7 +17,8 @@ use Rattle.state.specs.declared.Outcome.{Outcome}
 use Rattle.state.specs.declared.Outcome.the-variants.{Replied, Lost}
 use Rattle.state.specs.declared.Verdict.{Verdict}
 use Rattle.state.specs.declared.Verdict.the-variants.{Plausible, Vain, Foreign}
-use Rattle.state.specs.World.{Site, Done, begins, ends, still, done, andThen, withDoing, withHold, withStranger, withPs, withCore, withMasters}
+use Rattle.state.specs.World.{Site, Done, begins, ends, still, done, andThen, withDoing, withHold, withStranger}
+use Rattle.state.specs.World.{withPs, withCore, withMasters}
 use Rattle.state.specs.Request.{send, again, close}
 use Rattle.state.specs.Pass.{pass}
 

@@ -13,14 +13,13 @@ use Rattle.control.specs.declared.Control.{Control}
 use Rattle.control.specs.declared.Control.the-variants.{Request, Reply}
 use Rattle.control.specs.Control.{codeNumber}
 use Rattle.frame.specs.declared.Address.{Address}
-use Rattle.frame.specs.declared.Access.{Access}
-use Rattle.frame.specs.declared.Access.the-variants.{None, At}
 use Rattle.frame.specs.declared.Head.{Head}
 use Rattle.frame.specs.declared.Fields.{Fields}
 use Rattle.frame.specs.declared.Fields.the-variants.{Token, Short, Frame}
+use Rattle.frame.specs.Access.{accessOf, pointOf}
 use Rattle.frame.specs.Format.{octets}
 use Rattle.request.specs.declared.Record.{Record}
-use Rattle.request.specs.Record.{SDA, SDN, NA, OK, accessOf}
+use Rattle.request.specs.Record.{SDA, SDN, NA, OK}
 use Rattle.queue.specs.declared.Queue.{Queue}
 use Rattle.queue.specs.Queue.{current}
 use Rattle.rows.specs.Rows.{Left, at, content, confirm}
@@ -37,7 +36,8 @@ use Rattle.state.specs.declared.Verdict.the-variants.{Plausible, Vain, F
 use Rattle.times.specs.declared.Sending.{Sending}
 use Rattle.times.specs.declared.Sending.the-variants.{AfterSdn, Other}
 use Rattle.times.specs.Times.{waitOf}
-use Rattle.state.specs.World.{Site, Rows, Event, Done, aRequest, sends, confirmed, done, withDoing, withQueue, queueOf, withCore, withMarks, rowsOf, withRows}
+use Rattle.state.specs.World.{Site, Rows, Event, Done, aRequest, sends, confirmed, done, withDoing, withQueue}
+use Rattle.state.specs.World.{queueOf, withCore, withMarks, rowsOf, withRows}
 
 -- ---- the mark of an address: "unknown, or the next bit"
 abbrev pub UNKNOWN : ℕ
@@ -163,10 +163,6 @@ close o x s = closeOf (s .core .doing .served) o x s
 
 -- ---- replies
 -- "access points swapped"
-unfoldable pub pointOf : Access → ℕ
-pointOf None = 255
-pointOf (At p) = p .0
-
 unfoldable pub swapped : Record → Head → Bool
 swapped r h = pick (same (pointOf (h .to)) (r .from .0)) (pick (same (pointOf (h .from)) (r .to .0)) true false) false
 

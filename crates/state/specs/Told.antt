@@ -6,7 +6,8 @@ use mathlib.Core.List.{List, [], _∷_}
 use lib.ListN.{length, replicate}
 use Rattle.laid.specs.Laid.{laid, Lays}
 use Rattle.request.specs.declared.Record.{Record}
-use Rattle.request.specs.Record.{NONE, WAITING}
+use Rattle.request.specs.Record.{WAITING}
+use Rattle.frame.specs.Access.{NONE}
 use Rattle.state.specs.declared.Indication.{Indication}
 use Rattle.state.specs.declared.Indication.the-variants.{None, Shown}
 use Rattle.queue.specs.declared.Collected.{Collected}
@@ -29,7 +30,9 @@ use Rattle.state.specs.Request.{close}
 use Rattle.state.specs.Pass.{recheck}
 use Rattle.times.specs.declared.Settings.{Settings}
 use Rattle.state.specs.Calls.{Started, Unstarted, Station, noRows, emptyQueue, freshCore, freshWorld}
-use Rattle.state.specs.World.{Rows, World, Event, Done, Called, siteOf, rowsOf, worldOf, stateOf, stateWith, withQueue, accepted, begins, ends, sends, confirmed, collected, indicated, resets, refused}
+use Rattle.state.specs.World.{Rows, World, Event, Done, Called, siteOf, rowsOf, worldOf, stateOf, stateWith}
+use Rattle.state.specs.World.{withQueue, accepted, begins, ends, sends, confirmed, collected, indicated, resets}
+use Rattle.state.specs.World.{refused}
 
 pub record Telling : Type 0 where
   pub refused : ℕ

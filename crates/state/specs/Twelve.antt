@@ -26,10 +26,12 @@ use Rattle.times.specs.declared.Reckoned.the-variants.{Reckon}
 use Rattle.times.specs.Times.{reckoned, standard}
 use Rattle.ring.specs.Ring.{enter}
 use Rattle.request.specs.declared.Record.{Record}
-use Rattle.request.specs.Record.{SRD, NONE, NA}
+use Rattle.request.specs.Record.{SRD, NA}
+use Rattle.frame.specs.Access.{NONE}
 use Rattle.state.specs.declared.Priority.the-variants.{High}
 use Rattle.state.specs.Calls.{Started, Unstarted, Station}
-use Rattle.state.specs.World.{Rows, World, Event, aRequest, aToken, aReply, accepted, begins, ends, sends, confirmed, collected, indicated, worldOf}
+use Rattle.state.specs.World.{Rows, World, Event, aRequest, aToken, aReply, accepted, begins, ends, sends}
+use Rattle.state.specs.World.{confirmed, collected, indicated, worldOf}
 use Rattle.state.specs.Calls.{start}
 use Rattle.state.specs.Runs.{Call, submit, frame, slot, collect, call, run}
 

@@ -8,7 +8,8 @@ use Rattle.choice.specs.Choice.{pick}
 use Rattle.times.specs.declared.Settings.{Settings}
 use Rattle.times.specs.declared.Sending.the-variants.{AfterSdn, Other}
 use Rattle.times.specs.Times.{waitOf}
-use Rattle.state.specs.World.{What, aRequest, aToken, aReply, Event, accepted, begins, ends, sends, confirmed, collected, indicated, resets, refused}
+use Rattle.state.specs.World.{What, aRequest, aToken, aReply, Event, accepted, begins, ends, sends, confirmed}
+use Rattle.state.specs.World.{collected, indicated, resets, refused}
 use Rattle.state.specs.Counts.{controlIn, counts}
 
 -- whether the last sending in the hold was an SDN: a request that is neither SDA nor SRD. A reply is no sending in a hold

@@ -1,157 +1,215 @@
-// The station's calls frame, sent and slot expired, where the arrays of its state are lent: each takes any core, arrays,
-// rows, buffers and octets, and answers. Assumes nothing.
+// The station's seven calls on a state by value: start, submit, collect, frame, sent, slot and reset. Each takes any state,
+// rows, buffers and octets, and answers. Here are frame, sent and slot; the others are handed on. Assumes nothing.
 ghost use mathlib.Core.Path.{_≡_};
 ghost use lib.ListN.{length};
-ghost use Rattle.state.specs.World.{rows};
+ghost use Rattle.state.specs.World.{rows, worldOf};
 ghost use Rattle.state.specs.Calls.{frame as Calls·frame, sent as Calls·sent, slot as Calls·slot};
-ghost use Rattle.state.specs.Told.{stands, standing, worldIn};
-ghost use Rattle.station.specs.Acts.{Acts};
+ghost use Rattle.state.specs.Told.{leaves, told};
 use clock::BitTime;
-use state::Core;
-use state::Heard;
-use state::Indication;
-use state::Kept;
-
-// The answer of a refused call.
-fn refuse(refused: u8, core: Core, kept: Kept) -> Heard
-    ensures { λ r. ⌜ r ≡ record { refused = refused; core = core; kept = kept; length = 0; wait = record { 0 = 0 }; indication = Indication.None } ⌝ }
-{
-    Heard {
-        refused,
-        core,
-        kept,
-        length: 0,
-        wait: BitTime(0),
-        indication: Indication::None,
-    }
-}
+use ring::Masters;
+use state::Answer;
+use state::Marks;
+use state::Memory;
+use state::State;
+pub use station_queues::collect;
+pub use station_queues::submit;
+pub use station_start::reset;
+pub use station_start::start;
 
 // A frame, with the room for an indication and the two updates.
 pub fn frame<'a>(
+    s: State,
     clock: BitTime,
     room: bool,
     first: &'a [u8],
     second: &'a [u8],
-    s: &[u8],
-    c: Core,
-    k: Kept,
-    masters: &mut [u8; 127],
-    started: &[u8; 127],
-    marks: &mut [u8; 127],
-    points: &[u8; 64],
-    octets: &mut [u8; 255],
+    octets: &[u8],
     high: &mut [u8],
     harea: &mut [u8],
     low: &mut [u8],
     larea: &mut [u8],
     out: &mut [u8],
-) -> Heard
-    ensures { λ r. ⌜ stands r (now (masters .exit)) (now (started .entry)) (now (marks .exit)) (now (points .entry)) (now (octets .exit)) (rows (now (high .exit)) (now (harea .exit))) (rows (now (low .exit)) (now (larea .exit))) (now (out .exit)) ≡ standing (Calls·frame (clock .0) room (now (first .entry)) (now (second .entry)) (now (s .entry)) (length (now (out .entry))) (worldIn c k (now (masters .entry)) (now (started .entry)) (now (marks .entry)) (now (points .entry)) (now (octets .entry)) (rows (now (high .entry)) (now (harea .entry))) (rows (now (low .entry)) (now (larea .entry))))) (now (out .entry)) ⌝ }
+) -> Answer
+    ensures { λ r. ⌜ leaves r (rows (now (high .exit)) (now (harea .exit)))
+        (rows (now (low .exit)) (now (larea .exit))) (now (out .exit))
+        ≡ told
+        (Calls·frame (clock .0) room (now (first .entry)) (now (second .entry)) (now (octets .entry))
+        (length (now (out .entry)))
+        (worldOf s (rows (now (high .entry)) (now (harea .entry)))
+        (rows (now (low .entry)) (now (larea .entry))))) (now (out .entry)) ⌝ }
 {
-    let refused = refusals::refusal(
-        out.len(),
-        first.len(),
-        second.len(),
-        c,
-        masters,
-        started,
-        k,
-        high,
-        harea,
-        low,
-        larea,
-    );
-    if refused != 0 {
-        return refuse(refused, c, k);
-    }
-    listen::hear(
+    let core = s.core;
+    let set = s.masters;
+    let mut masters = set.0;
+    let first_set = s.started;
+    let started = first_set.0;
+    let bits = s.marks;
+    let mut marks = bits.0;
+    let active = s.points;
+    let points = active.0;
+    let memory = s.memory;
+    let kept = memory.kept;
+    let mut remembered = memory.octets;
+    let h = station_lent::frame(
         clock,
         room,
         first,
         second,
-        s,
-        c,
-        k,
-        masters,
-        marks,
-        points,
         octets,
+        core,
+        kept,
+        &mut masters,
+        &started,
+        &mut marks,
+        &points,
+        &mut remembered,
         high,
         harea,
         low,
         larea,
         out,
-    )
+    );
+    let core = h.core;
+    let kept = h.kept;
+    let wait = h.wait;
+    let indication = h.indication;
+    Answer {
+        refused: h.refused,
+        state: State {
+            core,
+            masters: Masters(masters),
+            started: first_set,
+            marks: Marks(marks),
+            points: active,
+            memory: Memory {
+                kept,
+                octets: remembered,
+            },
+        },
+        length: h.length,
+        wait,
+        indication,
+    }
 }
 
 // What was to be sent went out.
 pub fn sent(
+    s: State,
     clock: BitTime,
-    c: Core,
-    k: Kept,
-    masters: &[u8; 127],
-    started: &[u8; 127],
-    marks: &mut [u8; 127],
     high: &mut [u8],
     harea: &mut [u8],
     low: &mut [u8],
     larea: &mut [u8],
     out: &mut [u8],
-) -> Heard
-    ensures { λ r. ⌜ Acts (Calls·sent (clock .0) (length (now (out .entry)))) c k (now (masters .entry)) (now (started .entry)) (now (marks .entry)) (rows (now (high .entry)) (now (harea .entry))) (rows (now (low .entry)) (now (larea .entry))) (now (out .entry)) r (now (masters .entry)) (now (marks .exit)) (rows (now (high .exit)) (now (harea .exit))) (rows (now (low .exit)) (now (larea .exit))) (now (out .exit)) ⌝ }
+) -> Answer
+    ensures { λ r. ⌜ leaves r (rows (now (high .exit)) (now (harea .exit)))
+        (rows (now (low .exit)) (now (larea .exit))) (now (out .exit))
+        ≡ told
+        (Calls·sent (clock .0) (length (now (out .entry)))
+        (worldOf s (rows (now (high .entry)) (now (harea .entry)))
+        (rows (now (low .entry)) (now (larea .entry))))) (now (out .entry)) ⌝ }
 {
-    let refused = refusals::refusal(
-        out.len(),
-        0,
-        0,
-        c,
-        masters,
-        started,
-        k,
+    let core = s.core;
+    let set = s.masters;
+    let masters = set.0;
+    let first_set = s.started;
+    let started = first_set.0;
+    let bits = s.marks;
+    let mut marks = bits.0;
+    let points = s.points;
+    let memory = s.memory;
+    let kept = memory.kept;
+    let octets = memory.octets;
+    let h = station_lent::sent(
+        clock,
+        core,
+        kept,
+        &masters,
+        &started,
+        &mut marks,
         high,
         harea,
         low,
         larea,
+        out,
     );
-    if refused != 0 {
-        return refuse(refused, c, k);
+    let core = h.core;
+    let kept = h.kept;
+    let wait = h.wait;
+    let indication = h.indication;
+    Answer {
+        refused: h.refused,
+        state: State {
+            core,
+            masters: Masters(masters),
+            started: first_set,
+            marks: Marks(marks),
+            points,
+            memory: Memory { kept, octets },
+        },
+        length: h.length,
+        wait,
+        indication,
     }
-    let m = phases::sent_in(clock, c, masters, marks, high, harea, low, larea, out);
-    hearing::moved(m, k)
 }
 
 // Slot expired.
 pub fn slot(
+    s: State,
     clock: BitTime,
-    c: Core,
-    k: Kept,
-    masters: &mut [u8; 127],
-    started: &[u8; 127],
-    marks: &mut [u8; 127],
     high: &mut [u8],
     harea: &mut [u8],
     low: &mut [u8],
     larea: &mut [u8],
     out: &mut [u8],
-) -> Heard
-    ensures { λ r. ⌜ Acts (Calls·slot (clock .0) (length (now (out .entry)))) c k (now (masters .entry)) (now (started .entry)) (now (marks .entry)) (rows (now (high .entry)) (now (harea .entry))) (rows (now (low .entry)) (now (larea .entry))) (now (out .entry)) r (now (masters .exit)) (now (marks .exit)) (rows (now (high .exit)) (now (harea .exit))) (rows (now (low .exit)) (now (larea .exit))) (now (out .exit)) ⌝ }
+) -> Answer
+    ensures { λ r. ⌜ leaves r (rows (now (high .exit)) (now (harea .exit)))
+        (rows (now (low .exit)) (now (larea .exit))) (now (out .exit))
+        ≡ told
+        (Calls·slot (clock .0) (length (now (out .entry)))
+        (worldOf s (rows (now (high .entry)) (now (harea .entry)))
+        (rows (now (low .entry)) (now (larea .entry))))) (now (out .entry)) ⌝ }
 {
-    let refused = refusals::refusal(
-        out.len(),
-        0,
-        0,
-        c,
-        masters,
-        started,
-        k,
+    let core = s.core;
+    let set = s.masters;
+    let mut masters = set.0;
+    let first_set = s.started;
+    let started = first_set.0;
+    let bits = s.marks;
+    let mut marks = bits.0;
+    let points = s.points;
+    let memory = s.memory;
+    let kept = memory.kept;
+    let octets = memory.octets;
+    let h = station_lent::slot(
+        clock,
+        core,
+        kept,
+        &mut masters,
+        &started,
+        &mut marks,
         high,
         harea,
         low,
         larea,
+        out,
     );
-    if refused != 0 {
-        return refuse(refused, c, k);
+    let core = h.core;
+    let kept = h.kept;
+    let wait = h.wait;
+    let indication = h.indication;
+    Answer {
+        refused: h.refused,
+        state: State {
+            core,
+            masters: Masters(masters),
+            started: first_set,
+            marks: Marks(marks),
+            points,
+            memory: Memory { kept, octets },
+        },
+        length: h.length,
+        wait,
+        indication,
     }
-    let m = phases::slot_in(clock, c, masters, marks, high, harea, low, larea, out);
-    hearing::moved(m, k)
 }

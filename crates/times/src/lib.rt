@@ -3,7 +3,9 @@
 ghost use mathlib.Core.Path.{_≡_};
 ghost use Prim.Native.Nat.{_≤_, max};
 ghost use Rattle.times.specs.Times.{Small, tooLong, timesOf, reckoned, waitOf};
-ghost use Rattle.times.specs.Times.{outside as Times·outside, tsm as Times·tsm, tid1 as Times·tid1, tid2 as Times·tid2, tsl as Times·tsl, tto as Times·tto, unruly as Times·unruly, standard as Times·standard};
+ghost use Rattle.times.specs.Times.{outside as Times·outside, tsm as Times·tsm, tid1 as Times·tid1};
+ghost use Rattle.times.specs.Times.{tid2 as Times·tid2, tsl as Times·tsl, tto as Times·tto};
+ghost use Rattle.times.specs.Times.{unruly as Times·unruly, standard as Times·standard};
 use clock::BitTime;
 use frame::Address;
 

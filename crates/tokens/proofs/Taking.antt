@@ -8,7 +8,8 @@ use Rattle.ring.specs.Ring.{nextOf, enter, remove}
 use Rattle.times.specs.declared.Sending.the-variants.{Other}
 use Rattle.state.specs.declared.Core.{Core}
 use Rattle.state.specs.declared.Moved.{Moved}
-use Rattle.state.specs.World.{Rows, Site, siteOf, aToken, sends, still, withDoing, withStranger, withPs, withCore, withMasters}
+use Rattle.state.specs.World.{Rows, Site, siteOf, aToken, sends, still, withDoing, withStranger, withPs, withCore}
+use Rattle.state.specs.World.{withMasters}
 use Rattle.state.specs.Request.{once, waitFor}
 use Rattle.state.specs.Pass.{ns, tokenTo, passCore, passEvents, pass, passAgain, psWithout, without, recheck}
 use Rattle.state.specs.Hold.{begin, admit, token}

@@ -13,6 +13,7 @@ ghost use Rattle.state.specs.Told.{Sends, Does, Rechecks};
 use clock::BitTime;
 use frame::Address;
 use ring::Masters;
+use serve::exchange;
 use state::Core;
 use state::Moved;
 use times::Sending;
@@ -65,7 +66,12 @@ pub fn token(
     out: &mut [u8],
 ) -> Moved
     requires { ⌜ (Sited c (rows (now high) (now harea)) (rows (now low) (now larea))) × (255 ≤ length (now out)) ⌝ }
-    ensures { λ r. ⌜ Does (Hold·token (clock .0) (d .0) (a .0) (siteOf c (now (masters .entry)) (now (marks .entry)) (rows (now (high .entry)) (now (harea .entry))) (rows (now (low .entry)) (now (larea .entry))))) (now (out .entry)) r (now (masters .exit)) (now (marks .entry)) (rows (now (high .entry)) (now (harea .entry))) (rows (now (low .entry)) (now (larea .entry))) (now (out .exit)) ⌝ }
+    ensures { λ r. ⌜ Does
+        (Hold·token (clock .0) (d .0) (a .0)
+        (siteOf c (now (masters .entry)) (now (marks .entry)) (rows (now (high .entry)) (now (harea .entry)))
+        (rows (now (low .entry)) (now (larea .entry))))) (now (out .entry)) r (now (masters .exit))
+        (now (marks .entry)) (rows (now (high .entry)) (now (harea .entry)))
+        (rows (now (low .entry)) (now (larea .entry))) (now (out .exit)) ⌝ }
 {
     let ts = c.ts;
     let ps = c.ps;
@@ -90,7 +96,8 @@ pub fn token(
 // Sends the token to NS once more.
 fn pass_again(ns: Address, c: Core, out: &mut [u8]) -> Moved
     requires { ⌜ (Lawful c) × ((ns .0 < 127) × ((c .doing .sendings < 255) × (255 ≤ length (now out)))) ⌝ }
-    ensures { λ r. ⌜ Sends (withDoing (once (c .doing)) c) (sends aToken (tokenTo (ns .0) c) (waitFor c Sending.Other) ∷ []) (now (out .entry)) r (now (out .exit)) ⌝ }
+    ensures { λ r. ⌜ Sends (withDoing (once (c .doing)) c)
+        (sends aToken (tokenTo (ns .0) c) (waitFor c Sending.Other) ∷ []) (now (out .entry)) r (now (out .exit)) ⌝ }
 {
     let ts = c.ts;
     let d = c.doing;

@@ -8,7 +8,8 @@ ghost use lib.ListN.{length, take, drop};
 ghost use Rattle.choice.specs.Choice.{pick, less, same};
 ghost use Rattle.control.specs.Control.{fc};
 ghost use Rattle.frame.specs.Format.{unit, body, closing, unwritableFrame, written, left};
-ghost use Rattle.frame.specs.Format.{extension as Format·extension, addressed as Format·addressed, outside as Format·outside, SD1 as Format·SD1, SD2 as Format·SD2};
+ghost use Rattle.frame.specs.Format.{extension as Format·extension, addressed as Format·addressed};
+ghost use Rattle.frame.specs.Format.{outside as Format·outside, SD1 as Format·SD1, SD2 as Format·SD2};
 ghost use Rattle.laid.specs.Laid.{laid, Lays};
 use frame::Access;
 use frame::Address;
@@ -113,7 +114,8 @@ fn addressed(n: u8, a: Access) -> u8
 // Lays an access point's extension octet, if it has one, and gives the place behind it.
 fn lay_extension(a: Access, out: &mut [u8], at: usize) -> usize
     requires { ⌜ at + length (Format·extension a) ≤ length (now out) ⌝ }
-    ensures { λ r. ⌜ Lays (now (out .entry)) at (Format·extension a) (length (Format·extension a)) r (now (out .exit)) ⌝ }
+    ensures { λ r. ⌜ Lays (now (out .entry)) at (Format·extension a) (length (Format·extension a)) r
+        (now (out .exit)) ⌝ }
 {
     match a {
         Access::None => at,
@@ -156,7 +158,8 @@ fn lay_body(h: Head, control: u8, data: &[u8], out: &mut [u8], at: usize)
 // Lays FCS 16 behind the n octets of a body.
 fn close(out: &mut [u8], at: usize, n: usize)
     requires { ⌜ at + n + 2 ≤ length (now out) ⌝ }
-    ensures { λ _. ⌜ now (out .exit) ≡ laid (now (out .entry)) (at + n) (closing (take n (drop at (now (out .entry))))) ⌝ }
+    ensures { λ _. ⌜ now (out .exit)
+        ≡ laid (now (out .entry)) (at + n) (closing (take n (drop at (now (out .entry))))) ⌝ }
 {
     let end = at + n;
     let sum = frame::fcs(&out[at..end]);
@@ -167,7 +170,8 @@ fn close(out: &mut [u8], at: usize, n: usize)
 // Lays the start octets of a frame whose body has n octets, and gives the place behind them.
 fn lay_start(out: &mut [u8], n: u8) -> usize
     requires { ⌜ 4 ≤ length (now out) ⌝ }
-    ensures { λ r. ⌜ Lays (now (out .entry)) 0 (pick (same n 3) (Format·SD1 ∷ []) (Format·SD2 ∷ (n ∷ (n ∷ (Format·SD2 ∷ []))))) 4 r (now (out .exit)) ⌝ }
+    ensures { λ r. ⌜ Lays (now (out .entry)) 0
+        (pick (same n 3) (Format·SD1 ∷ []) (Format·SD2 ∷ (n ∷ (n ∷ (Format·SD2 ∷ []))))) 4 r (now (out .exit)) ⌝ }
 {
     if n == 3 {
         out[0] = SD1;

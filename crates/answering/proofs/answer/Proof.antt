@@ -3,7 +3,7 @@ use mathlib.Core.Bool.{Bool, true, false, true≢false}
 use mathlib.Core.Path.{_≡_, refl, sym, _∙_}
 use Rattle.choice.specs.Choice.{pick, either}
 use Rattle.state.specs.Answering.{answered, answer}
-use Rattle.answers.proofs.Says.{says-nothing}
+use Rattle.answering.proofs.answers.Says.{says-nothing}
 use borrow.Author.Needs.{needs}
 use Rattle.answering.proofs.answer.Statement.{statement}
 use Rattle.answering.proofs.answer.Tie as tie

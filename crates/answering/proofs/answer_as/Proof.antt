@@ -3,7 +3,7 @@ use mathlib.Core.Bool.{true, false}
 use mathlib.Core.Path.{_≡_, refl}
 use mathlib.Core.Logic.{⊎-elim}
 use Rattle.state.specs.Answering.{answered, sdnEvents, answerAs}
-use Rattle.answers.proofs.Says.{says-nothing, says-shows}
+use Rattle.answering.proofs.answers.Says.{says-nothing, says-shows}
 use borrow.Author.Needs.{needs}
 use Rattle.answering.proofs.answer_as.Statement.{statement}
 use Rattle.answering.proofs.answer_as.Tie as tie

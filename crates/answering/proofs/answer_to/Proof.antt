@@ -1,7 +1,7 @@
 -- `answering::answer_to` meets its contract. Assumes nothing.
 use mathlib.Core.Path.{refl}
 use Rattle.state.specs.Answering.{answered, answerTo}
-use Rattle.answers.proofs.Says.{says-nothing}
+use Rattle.answering.proofs.answers.Says.{says-nothing}
 use borrow.Author.Needs.{needs}
 use Rattle.answering.proofs.answer_to.Statement.{statement}
 use Rattle.answering.proofs.answer_to.Tie as tie

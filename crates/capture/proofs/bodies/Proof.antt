@@ -4,7 +4,8 @@ use Prim.Native.Nat.{_-_}
 use mathlib.Core.Path.{_∙_}
 use Rattle.capture.specs.Listing.{bodiesAt}
 use native.Mathlib.Omega.{arith}
-use Rattle.capture.proofs.Walk.{Walked, walked-none, walked-room, walked-length, walked-more, walked-cut, walked-last}
+use Rattle.capture.proofs.Walk.{Walked, walked-none, walked-room, walked-length, walked-more, walked-cut}
+use Rattle.capture.proofs.Walk.{walked-last}
 use Rattle.capture.proofs.bodies.Statement.{statement}
 use Rattle.capture.proofs.bodies.Tie as tie
 

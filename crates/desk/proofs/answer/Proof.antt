@@ -6,7 +6,7 @@ use Rattle.desk.proofs.answer.Tie as tie
 use native.Mathlib.Omega.{arith}
 use Rattle.choice.specs.Choice.{pick}
 use Rattle.choice.proofs.Rules.{same-true, same-false, less-true, less-false}
-use Rattle.saying.specs.Saying.{unknownLine}
+use Rattle.printed_lines.specs.Saying.{unknownLine}
 use Rattle.desk.specs.Desk.{answer}
 use Rattle.desk.proofs.Holding.{silent, keeps}
 

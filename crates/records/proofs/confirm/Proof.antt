@@ -17,9 +17,11 @@ use prog.Wp.{Heap, Calls, Loops, WpFn, Tables}
 use ghost.Atoms.{Atoms, sem}
 use contract.Monad.{Fun, fact}
 use contract.Running.{givenOf, tables, tablesOf}
-use types.Kit.{Given, ‵, raw, _⊛_, ⋆, some, later, _$_, _∵_, !, qed, by, move, drop, use0, use1, split, join, pick, rewrite, fsplit, fjoin, suffices, frame, await, done}
+use types.Kit.{Given, ‵, raw, _⊛_, ⋆, some, later, _$_, _∵_, !, qed, by, move, drop, use0, use1, split, join, pick}
+use types.Kit.{rewrite, fsplit, fjoin, suffices, frame, await, done}
 use types.Part.{whole, sub, look-in}
-use types.Run.{look, look-raw, init, store-raw, forget, stop, hop, fld, from, load, lit, of-opd, un, bin, and-then, no-more, assigns, land, returns, enter, alloc1, alloc0, params1, pass1, pass0, free1, free0}
+use types.Run.{look, look-raw, init, store-raw, forget, stop, hop, fld, from, load, lit, of-opd, un, bin, and-then}
+use types.Run.{no-more, assigns, land, returns, enter, alloc1, alloc0, params1, pass1, pass0, free1, free0}
 use sound.WpLaws.{FmC, fmOf, WpFn-mono}
 use denote.RattleType.{owns}
 use denote.Shadow.{pureI}
@@ -38,7 +40,8 @@ use denote.Triple.Clauses.{ensured, lasts}
 use denote.Triple.Entry.{Vals, onEntry}
 use denote.Triple.Spec.{Meets, tripleOf}
 use denote.Triple.Table.{entered, cited}
-use denote.Triple.Walked.{says, needs, Stays, stay-none, stay-slice, walkOf, goes-none, goes-slice, Walks, ends-at, walked, walk-meets}
+use denote.Triple.Walked.{says, needs, Stays, stay-none, stay-slice, walkOf, goes-none, goes-slice, Walks, ends-at}
+use denote.Triple.Walked.{walked, walk-meets}
 use denote.Exit.{yes}
 use Rattle.request.specs.declared.Record.{Record}
 use Rattle.request.proofs.Record.Laws as R′
@@ -60,7 +63,8 @@ use Rattle.queue.proofs.confirm.Met as advance-thm
 use Rattle.records.specs.Records as Records
 use Rattle.records.specs.Records.{blank, left}
 use Rattle.records.proofs.Laws.{current-below}
-use Rattle.records.proofs.Row.{Row, lowered, row-vals, row-tells, row-makes, row-typed, Counts, counts-lowered, counts-vals, counts-tells, counts-makes, counts-typed, far}
+use Rattle.records.proofs.Row.{Row, lowered, row-vals, row-tells, row-makes, row-typed, Counts, counts-lowered}
+use Rattle.records.proofs.Row.{counts-vals, counts-tells, counts-makes, counts-typed, far}
 use Rattle.records.proofs.confirm.Key.{name as #records·confirm}
 use Rattle.records.proofs.confirm as confirm
 use Rattle.records.proofs.confirm.Statement as stated

@@ -6,8 +6,8 @@ use Prim.Native.Nat.{_-_}
 use mathlib.Core.Path.{sym, ap, _∙_}
 use native.Mathlib.Omega.{arith}
 use lib.ListN.{length, take}
-use Rattle.intake.specs.declared.Gathered.{Gathered}
-use Rattle.intake.proofs.Kept.{gathered-on, gathered-few}
+use Rattle.typed_lines.specs.declared.Gathered.{Gathered}
+use Rattle.typed_lines.proofs.Kept.{gathered-on, gathered-few}
 use Rattle.replay.specs.Replay.{Ready}
 
 abbrev Inv-loop : tie.InvT-loop

@@ -1,7 +1,8 @@
 -- `tokens::token` meets its contract, case by case. Assumes nothing.
 use Rattle.serve.proofs.Sited.{sited-ps}
 use Rattle.serve.proofs.Telling.{does-as}
-use Rattle.tokens.proofs.Taking.{to-another, from-itself, from-ps, second-time, first-time, does-still, does-remember, does-admitted}
+use Rattle.tokens.proofs.Taking.{to-another, from-itself, from-ps, second-time, first-time, does-still}
+use Rattle.tokens.proofs.Taking.{does-remember, does-admitted}
 use borrow.Author.Needs.{needs}
 use Rattle.tokens.proofs.token.Statement.{statement}
 use Rattle.tokens.proofs.token.Tie as tie

@@ -10,7 +10,8 @@ use Rattle.frame.specs.declared.Fields.the-variants.{Frame}
 use Rattle.frame.specs.Format.{body, framed}
 use Rattle.write.proofs.Lengths.{length-body}
 use Rattle.write.proofs.Frame.{start, length-start, laid-frame}
-use Rattle.write.proofs.Answers.{unwritten, Writes, short, wrote, Writable, writable, frame-refused, writes-frame}
+use Rattle.write.proofs.Answers.{unwritten, Writes, short, wrote, Writable, writable, frame-refused}
+use Rattle.write.proofs.Answers.{writes-frame}
 use borrow.Author.Needs.{needs}
 use Rattle.write.proofs.write_frame.Statement.{statement}
 use Rattle.write.proofs.write_frame.Tie as tie

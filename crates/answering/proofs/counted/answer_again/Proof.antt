@@ -1,0 +1,13 @@
+-- `answering::counted::answer_again` meets its contract. Assumes nothing.
+use Rattle.state.specs.Answering.{recalled}
+use Rattle.answering.proofs.answers.Says.{says-reply}
+use borrow.Author.Needs.{needs}
+use Rattle.answering.proofs.counted.answer_again.Statement.{statement}
+use Rattle.answering.proofs.counted.answer_again.Tie as tie
+
+returns : tie.Need-returns
+unfolding recalled
+returns c = says-reply (c .before .before .before .before .before .before .before .args .c) (c .wait-for .ensures) (c .before .before .before .recall .ensures)
+
+pub answer-again-spec : {M : Type 1} → statement M
+answer-again-spec = tie.close (tie.spec (λ c. search needs) (λ c κs. search needs) (λ c κs. search needs) (λ c. search needs) returns)

@@ -1,0 +1,16 @@
+-- `answering::news::active` meets its contract. Assumes nothing.
+use Rattle.state.specs.Answering.{active}
+use borrow.Author.Needs.{needs}
+use Rattle.answering.proofs.news.active.Statement.{statement}
+use Rattle.answering.proofs.news.active.Tie as tie
+
+returns : tie.Need-returns
+unfolding active
+returns c = rw (c .before .before .enum-told .given .1) (c .one .ensures)
+
+returns-2 : tie.Need-returns-2
+unfolding active
+returns-2 c = rw (c .before .before .a .given .1) (c .active-at .ensures)
+
+pub active-spec : {M : Type 1} → statement M
+active-spec = tie.close (tie.spec (λ c. search needs) (λ c. search needs) (λ c κs. search needs) (λ c. search needs) (λ c κs. search needs) returns returns-2)

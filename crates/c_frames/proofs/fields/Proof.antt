@@ -1,0 +1,28 @@
+-- `c_frames::fields` meets its contract: each form by its own function.
+-- Assumes nothing.
+use borrow.Author.Needs.{needs}
+use Rattle.c_frames.proofs.fields.Statement.{statement}
+use Rattle.c_frames.proofs.fields.Tie as tie
+
+returns : tie.Need-returns
+returns c = rw (c .before .before .f .given .1) (c .token .ensures)
+
+returns-2 : tie.Need-returns-2
+returns-2 c = rw (c .before .enum-told .given .1) (c .short .ensures)
+
+returns-3 : tie.Need-returns-3
+returns-3 c = rw (c .before .before .f2 .given .1) (c .head .ensures)
+
+pub fields-spec : {M : Type 1} → statement M
+fields-spec =
+    tie.close
+    (tie.spec
+    (λ c. search needs)
+    (λ c κs. search needs)
+    (λ c. search needs)
+    (λ c κs. search needs)
+    (λ c. search needs)
+    (λ c κs. search needs)
+    returns
+    returns-2
+    returns-3)

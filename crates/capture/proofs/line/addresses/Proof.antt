@@ -1,0 +1,28 @@
+-- `capture::line::addresses` meets its contract: three steps in a row.
+-- Assumes nothing.
+use Rattle.capture.specs.Line.{addresses}
+use borrow.Author.Needs.{needs}
+use native.Mathlib.Omega.{arith}
+use Rattle.laid.proofs.Laws.{lays-three}
+use Rattle.capture.proofs.line.addresses.Statement.{statement}
+use Rattle.capture.proofs.line.addresses.Tie as tie
+
+returns : tie.Need-returns
+unfolding addresses
+returns c =
+    let at4 = c .before .before in
+    let at3 = at4 .before .before .before .before in
+    let at2 = at3 .before .before .before .before .before in
+    let start = at2 .before .before .before in
+    lays-three (omega (arith, start .pre)) (at2 .number .ensures) (at3 .lay .ensures) (at4 .number2 .ensures)
+
+pub addresses-spec : {M : Type 1} → statement M
+addresses-spec =
+    tie.close
+    (tie.spec
+    (λ c κs. search needs)
+    (λ c. search needs)
+    (λ c κs. search needs)
+    (λ c κs. search needs)
+    (λ c. search needs)
+    returns)

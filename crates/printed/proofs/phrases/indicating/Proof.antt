@@ -1,0 +1,20 @@
+-- `printed::phrases::indicating` meets its contract: nothing, or the request.
+-- Assumes nothing.
+use borrow.Author.Needs.{needs}
+use Rattle.printed.proofs.phrases.indicating.Statement.{statement}
+use Rattle.printed.proofs.phrases.indicating.Tie as tie
+use Rattle.printed.specs.Printed.{indicating}
+use Rattle.printed.proofs.phrases.Steps.{lays-nothing}
+
+returns : tie.Need-returns
+unfolding indicating
+returns c =
+    let a = c .before .before .before .before .args in
+    rw (c .enum-told .given .1) (lays-nothing (a .out .now) (a .at) _)
+
+returns-2 : tie.Need-returns-2
+returns-2 c = rw (c .before .before .before .before .before .i .given .1) (c .before .before .indicated .ensures)
+
+pub indicating-spec : {M : Type 1} → statement M
+indicating-spec =
+    tie.close (tie.spec (λ c. search needs) (λ c. search needs) (λ c κs. search needs) returns (λ c. search needs) returns-2)

@@ -1,0 +1,13 @@
+-- `printed_lines::shown::counts` meets its contract: two steps in a row.
+-- Assumes nothing.
+use borrow.Author.Needs.{needs}
+use Rattle.printed_lines.proofs.shown.counts.Statement.{statement}
+use Rattle.printed_lines.proofs.shown.counts.Tie as tie
+use native.Mathlib.Omega.{arith}
+use Rattle.laid.proofs.Laws.{lays-then}
+
+returns : tie.Need-returns
+returns c = lays-then (omega arith) (c .before .before .before .before .before .before .number .ensures) (c .before .before .number2 .ensures)
+
+pub counts-spec : {M : Type 1} → statement M
+counts-spec = tie.close (tie.spec (λ c κs. search needs) (λ c κs. search needs) (λ c. search needs) returns)

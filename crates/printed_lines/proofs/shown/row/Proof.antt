@@ -1,0 +1,43 @@
+-- `printed_lines::shown::row` meets its contract: seven steps in a row.
+-- Assumes nothing.
+use borrow.Author.Needs.{needs}
+use Rattle.printed_lines.proofs.shown.row.Statement.{statement}
+use Rattle.printed_lines.proofs.shown.row.Tie as tie
+use native.Mathlib.Omega.{arith}
+use Prim.Native.Nat.{_+_, _≤_}
+use lib.ListN.{length}
+use Rattle.laid.proofs.Laws.{lays-room, lays-then, lays-within}
+
+returns : tie.Need-returns
+returns c =
+    let at8 = c .before .before in
+    let at7 = at8 .before .before .before .before in
+    let at6 = at7 .before .before .before .before in
+    let at5 = at6 .before .before .before .before in
+    let at4 = at5 .before .before .before .before in
+    let at3 = at4 .before .before .before .before in
+    let at2 = at3 .before .before .before .before in
+    let start = at2 .before .before .before .before .before in
+    let a = start .args in
+    let h1 : a .at + (2 + 544) ≤ length (a .out .now) = omega (arith, start .pre) in
+    let h2 = lays-room 544 h1 (at2 .lay .ensures) in
+    let h3 = lays-room 540 h2 (at3 .number .ensures) in
+    let h4 = lays-room 533 h3 (at4 .service .ensures) in
+    let h5 = lays-room 529 h4 (at5 .number2 .ensures) in
+    let h6 = lays-room 525 h5 (at6 .point .ensures) in
+    lays-within 600 (omega arith) (lays-then h1 (at2 .lay .ensures) (lays-then h2 (at3 .number .ensures) (lays-then h3 (at4 .service .ensures) (lays-then h4 (at5 .number2 .ensures) (lays-then h5 (at6 .point .ensures) (lays-then h6 (at7 .point2 .ensures) (at8 .ending .ensures)))))))
+
+pub row-spec : {M : Type 1} → statement M
+row-spec =
+    tie.close
+    (tie.spec
+    (λ c. search needs)
+    (λ c κs. search needs)
+    (λ c κs. search needs)
+    (λ c κs. search needs)
+    (λ c κs. search needs)
+    (λ c κs. search needs)
+    (λ c κs. search needs)
+    (λ c κs. search needs)
+    (λ c. search needs)
+    returns)

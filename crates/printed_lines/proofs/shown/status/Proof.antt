@@ -1,0 +1,13 @@
+-- `printed_lines::shown::status` meets its contract: its word is laid.
+-- Assumes nothing.
+use borrow.Author.Needs.{needs}
+use Rattle.printed_lines.proofs.shown.status.Statement.{statement}
+use Rattle.printed_lines.proofs.shown.status.Tie as tie
+use native.Mathlib.Omega.{arith}
+use Rattle.laid.proofs.Laws.{lays-within}
+
+returns : tie.Need-returns
+returns c = lays-within 4 (omega arith) (rw (c .before .before .before .before .status-word .ensures .0) at (c .before .before .lay-word .ensures))
+
+pub status-spec : {M : Type 1} → statement M
+status-spec = tie.close (tie.spec (λ c κs. search needs) (λ c κs. search needs) (λ c. search needs) returns)

@@ -1,0 +1,24 @@
+-- `typed::digits::is_octets` meets its contract: each return is one case of the chain.
+-- Assumes nothing.
+use Rattle.choice.specs.Choice.{said}
+use Rattle.choice.proofs.Rules.{asked-true, asked-false, if-same, unless-same}
+use mathlib.Core.Path.{refl}
+use Rattle.typed.specs.Digits.{isOctets}
+use Rattle.typed.proofs.digits.is_octets.Statement.{statement}
+use Rattle.typed.proofs.digits.is_octets.Tie as tie
+
+returns : tie.Need-returns
+unfolding isOctets
+returns c = asked-true _ (c .before .dash .ensures) (c .if1 .taken) refl
+
+returns-2 : tie.Need-returns-2
+unfolding isOctets said
+returns-2 c = asked-false _ (c .before .before .before .dash .ensures) (c .before .before .if1 .left) (if-same _ (c .before .if2 .taken) (c .all-hex .ensures))
+
+returns-3 : tie.Need-returns-3
+unfolding isOctets
+returns-3 c = asked-false _ (c .before .before .dash .ensures) (c .before .if1 .left) (unless-same _ (c .if2 .left) refl)
+
+pub is-octets-spec : {M : Type 1} → statement M
+is-octets-spec =
+    tie.close (tie.spec (λ c κs. tt) returns (λ c κs. tt) returns-2 returns-3)

@@ -1,0 +1,24 @@
+-- `typed::places::access` meets its contract: each return is one case of the chain.
+-- Assumes nothing.
+use Rattle.choice.proofs.Rules.{asked-true, asked-false}
+use Rattle.typed.specs.Places.{access}
+use Rattle.typed.proofs.places.access.Statement.{statement}
+use Rattle.typed.proofs.places.access.Tie as tie
+
+returns : tie.Need-returns
+unfolding access
+returns c = asked-true _ (c .before .before .dash .ensures) (c .before .if1 .taken) (c .valued .ensures)
+
+returns-2 : tie.Need-returns-2
+unfolding access
+returns-2 c = asked-false _ (c .before .before .dash .ensures) (c .before .if1 .left) (c .decimal .ensures)
+
+pub access-spec : {M : Type 1} → statement M
+access-spec =
+    tie.close
+    (tie.spec
+    (λ c κs. tt)
+    (λ c κs. tt)
+    returns
+    (λ c κs. tt)
+    returns-2)

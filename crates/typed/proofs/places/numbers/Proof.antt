@@ -1,0 +1,55 @@
+-- `typed::places::numbers` meets its contract. The loop's invariant: the words still to come fit if all do.
+-- Assumes nothing.
+use Prim.Native.Nat.{_+_}
+use mathlib.Core.Path.{_≡_, refl, sym, ap, _∙_}
+use native.Mathlib.Omega.{arith}
+use borrow.Author.Tests.{not-true, not-false}
+use Rattle.typed.specs.declared.digits.Number.{Number}
+use Rattle.typed.specs.Places.{numbers}
+use Rattle.typed.proofs.places.Many.{numbers-more, numbers-not, numbers-last}
+use Rattle.typed.proofs.places.numbers.Statement.{statement}
+use Rattle.typed.proofs.places.numbers.Tie as tie
+
+abbrev Inv-loop : tie.InvT-loop
+Inv-loop s k n most at₀ left₀ at left = (at + left ≡ k + n) × (numbers s at left most ≡ numbers s k n most)
+
+abbrev μ-loop : tie.MeasureT-loop
+μ-loop s k n most at₀ left₀ at left = left
+
+returns : tie.Need-returns Inv-loop μ-loop
+returns c =
+    let l = c .before .before .before .before .before .loop in
+    let a = c .before .before .before .before .before .before .before .args in
+    let d = rw (c .before .before .before .word .ensures) at (c .before .before .decimal .ensures) in
+    numbers-not (a .s .now) (l .at) (l .left) (a .most) (c .before .before .before .before .loop-test .taken) (sym (ap (λ (x : Number). x .good) d) ∙ not-true _ (c .if1 .taken)) ∙ l .inv .1
+
+loop-again : tie.Need-loop-again Inv-loop μ-loop
+loop-again c =
+    let l = c .before .before .before .before .before .loop in
+    let a = c .before .before .before .before .before .before .before .args in
+    let d = rw (c .before .before .before .word .ensures) at (c .before .before .decimal .ensures) in (
+      omega arith,
+      numbers-more (a .s .now) (l .at) (l .left) (a .most) (c .before .before .before .before .loop-test .taken) (sym (ap (λ (x : Number). x .good) d) ∙ not-false _ (c .if1 .left)) ∙ l .inv .1,
+    )
+
+returns-2 : tie.Need-returns-2 Inv-loop μ-loop
+returns-2 c =
+    let l = c .before .loop in
+    let a = c .before .before .before .args in
+    numbers-last (a .s .now) (l .at) (l .left) (a .most) (c .loop-test .left) ∙ l .inv .1
+
+pub numbers-spec : {M : Type 1} → statement M
+numbers-spec =
+    tie.close
+    (tie.spec
+    Inv-loop
+    μ-loop
+    (λ c. (refl, refl))
+    (λ c κs. tt)
+    (λ c κs. tt)
+    returns
+    (λ c. omega arith)
+    (λ c. omega arith)
+    (λ c. omega arith)
+    loop-again
+    returns-2)

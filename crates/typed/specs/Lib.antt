@@ -1,0 +1,4 @@
+pub mod Words
+pub mod Digits
+pub mod Lists
+pub mod Places

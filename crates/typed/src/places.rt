@@ -1,0 +1,152 @@
+// What fits its place in a line of the replay script: words that stand for a number, and what a word or some words of a
+// line are. Assumes nothing.
+ghost use mathlib.Core.Path.{_≡_};
+ghost use Prim.Native.Nat.{_+_, _≤_};
+ghost use Rattle.typed.specs.Words.{word};
+ghost use Rattle.typed.specs.Digits.{isOctets};
+ghost use Rattle.typed.specs.Places.{either as Places·either, queue as Places·queue, room as Places·room};
+ghost use Rattle.typed.specs.Places.{service as Places·service, access as Places·access, named as Places·named};
+ghost use Rattle.typed.specs.Places.{numbers as Places·numbers, isMasters, isPoints};
+use super::digits;
+use super::digits::Number;
+use super::lists;
+use super::words;
+
+const SHORT: u32 = 255;
+
+// The number of a word that is one of two.
+fn either(w: &[u8], first: &[u8], second: &[u8]) -> Number
+    ensures { λ r. ⌜ r ≡ Places·either (now (w .entry)) (now (first .entry)) (now (second .entry)) ⌝ }
+{
+    if words::equal(w, first) {
+        return digits::valued(0);
+    }
+    if words::equal(w, second) {
+        return digits::valued(1);
+    }
+    digits::none()
+}
+
+// A queue's number: 0 the high one, 1 the low one.
+pub fn queue(w: &[u8]) -> Number
+    ensures { λ r. ⌜ r ≡ Places·queue (now (w .entry)) ⌝ }
+{
+    either(w, b"high", b"low")
+}
+
+// The number that says whether the caller has room.
+pub fn room(w: &[u8]) -> Number
+    ensures { λ r. ⌜ r ≡ Places·room (now (w .entry)) ⌝ }
+{
+    either(w, b"0", b"1")
+}
+
+// A service's number.
+pub fn service(w: &[u8]) -> Number
+    ensures { λ r. ⌜ r ≡ Places·service (now (w .entry)) ⌝ }
+{
+    if words::equal(w, b"sda") {
+        return digits::valued(3);
+    }
+    if words::equal(w, b"sdn") {
+        return digits::valued(4);
+    }
+    if words::equal(w, b"srd") {
+        return digits::valued(12);
+    }
+    if words::equal(w, b"status") {
+        return digits::valued(9);
+    }
+    if words::equal(w, b"ident") {
+        return digits::valued(14);
+    }
+    if words::equal(w, b"lsap") {
+        return digits::valued(15);
+    }
+    digits::none()
+}
+
+// An access point's number, and 256 of none.
+pub fn access(w: &[u8]) -> Number
+    ensures { λ r. ⌜ r ≡ Places·access (now (w .entry)) ⌝ }
+{
+    if digits::dash(w) {
+        return digits::valued(256);
+    }
+    digits::decimal(w, SHORT)
+}
+
+// Whether a line has a call's word and count of words.
+pub fn named(s: &[u8], name: &[u8], n: usize) -> bool
+    ensures { λ r. ⌜ r ≡ Places·named (now (s .entry)) (now (name .entry)) n ⌝ }
+{
+    if words::count(s) == n {
+        return words::equal(words::word(s, 0), name);
+    }
+    false
+}
+
+// Whether n words from word k on are numbers of at most a greatest.
+pub fn numbers(s: &[u8], k: usize, n: usize, most: u32) -> bool
+    requires { ⌜ k + n ≤ 100 ⌝ }
+    ensures { λ r. ⌜ r ≡ Places·numbers (now (s .entry)) k n most ⌝ }
+{
+    let mut at = k;
+    let mut left = n;
+    while left != 0 {
+        let d = digits::decimal(words::word(s, at), most);
+        if !d.good {
+            return false;
+        }
+        at += 1;
+        left -= 1;
+    }
+    true
+}
+
+// Whether a word is a list of masters, and whether it is one of access points.
+pub fn is_masters(w: &[u8]) -> bool
+    ensures { λ r. ⌜ r ≡ isMasters (now (w .entry)) ⌝ }
+{
+    let mut set = [0u8; 127];
+    lists::masters(w, &mut set)
+}
+
+pub fn is_points(w: &[u8]) -> bool
+    ensures { λ r. ⌜ r ≡ isPoints (now (w .entry)) ⌝ }
+{
+    let mut set = [0u8; 64];
+    lists::points(w, &mut set)
+}
+
+// Whether a word is a queue, a room, a service, and an access point or none.
+pub fn is_queue(w: &[u8]) -> bool
+    ensures { λ r. ⌜ r ≡ Places·queue (now (w .entry)) .good ⌝ }
+{
+    queue(w).good
+}
+
+pub fn is_room(w: &[u8]) -> bool
+    ensures { λ r. ⌜ r ≡ Places·room (now (w .entry)) .good ⌝ }
+{
+    room(w).good
+}
+
+pub fn is_service(w: &[u8]) -> bool
+    ensures { λ r. ⌜ r ≡ Places·service (now (w .entry)) .good ⌝ }
+{
+    service(w).good
+}
+
+pub fn is_access(w: &[u8]) -> bool
+    ensures { λ r. ⌜ r ≡ Places·access (now (w .entry)) .good ⌝ }
+{
+    access(w).good
+}
+
+// Whether a word of a line is octets.
+pub fn octets_at(s: &[u8], k: usize) -> bool
+    ensures { λ r. ⌜ r ≡ isOctets (word (now (s .entry)) k) ⌝ }
+{
+    digits::is_octets(words::word(s, k))
+}
