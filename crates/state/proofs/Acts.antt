@@ -86,7 +86,8 @@ octetsOf y s = octetsIn (s .core .ts) y (queueOf y (s .core)) (s .marks) (rowsOf
 
 -- what is told of a sending: of a request, for the first time and again, and of the token
 abbrev pub firstSending : Priority → Site → Event
-firstSending y s = sends (aRequest y (current (queueOf y (s .core)))) (octetsOf y s) (waitFor (s .core) (afterLast (s .core)))
+firstSending y s =
+    sends (aRequest y (current (queueOf y (s .core)))) (octetsOf y s) (waitFor (s .core) (afterLast (s .core)))
 
 abbrev pub nextSending : Priority → Site → Event
 nextSending y s = sends (aRequest y (current (queueOf y (s .core)))) (octetsOf y s) (waitFor (s .core) Other)
@@ -107,33 +108,58 @@ freedOf y s = withCore (withQueue y (freed (queueOf y (s .core))) (s .core)) s
 pub data Move (k : Type 0) : Point → Site → Point → Site → Type 0 where
   lets-go : (s : Site) → (k → flight (s .core .doing .phase) ≡ false) → Move k calm s free s
   rests : (s : Site) → Move k free s calm (rest s)
-  notes : (a : ℕ) (s : Site) → (k → a ≤ 126) → (a ≡ s .core .ts .0 → ⊥) → (a ≡ s .core .ps .0 → ⊥) → (a ≡ s .core .stranger .0 → ⊥) → Move k calm s calm (noted a s)
-  admits : (a : ℕ) (s : Site) → (k → a ≤ 126) → (a ≡ s .core .ts .0 → ⊥) → a ≡ s .core .stranger .0 → Move k free s free (admit a s)
-  drops : (s : Site) → (k → s .core .doing .phase ≡ Check) → 3 ≤ s .core .doing .sendings → Move k calm s passing (without s)
-  spares : (s : Site) → flight (s .core .doing .phase) ≡ false → Move k halting s (clearing (countOf High (s .core)) (countOf Low (s .core))) s
-  renews : (a b : ℕ) (masters : List ℕ) (s : Site) → (k → member masters (s .core .ts .0) ≡ true) → s .core .high .unconfirmed ≡ 0 → s .core .low .unconfirmed ≡ 0 → Move k (clearing a b) s calm (anew masters s)
+  notes : (a : ℕ) (s : Site) → (k → a ≤ 126) → (a ≡ s .core .ts .0 → ⊥) → (a ≡ s .core .ps .0 → ⊥)
+      → (a ≡ s .core .stranger .0 → ⊥) → Move k calm s calm (noted a s)
+  admits : (a : ℕ) (s : Site) → (k → a ≤ 126) → (a ≡ s .core .ts .0 → ⊥) → a ≡ s .core .stranger .0
+      → Move k free s free (admit a s)
+  drops : (s : Site) → (k → s .core .doing .phase ≡ Check) → 3 ≤ s .core .doing .sendings
+      → Move k calm s passing (without s)
+  spares : (s : Site) → flight (s .core .doing .phase) ≡ false
+      → Move k halting s (clearing (countOf High (s .core)) (countOf Low (s .core))) s
+  renews : (a b : ℕ) (masters : List ℕ) (s : Site) → (k → member masters (s .core .ts .0) ≡ true)
+      → s .core .high .unconfirmed ≡ 0 → s .core .low .unconfirmed ≡ 0
+      → Move k (clearing a b) s calm (anew masters s)
 
 -- ---- acts
 pub data Act (k : Type 0) : Point → Site → Event → Point → Site → Type 0 where
   opens : (clock : ℕ) (s : Site) → Act k free s begins (choosing true) (withCore (beginning clock (s .core)) s)
-  serves : (starts : Bool) (clock : ℕ) (y : Priority) (s : Site) → choice starts (s .core) clock ≡ Serve y → Act k (choosing starts) s (firstSending y s) calm (sent y s)
-  stops : (starts : Bool) (clock : ℕ) (s : Site) → choice starts (s .core) clock ≡ PassOn → Act k (choosing starts) s ends passing s
+  serves : (starts : Bool) (clock : ℕ) (y : Priority) (s : Site) → choice starts (s .core) clock ≡ Serve y
+      → Act k (choosing starts) s (firstSending y s) calm (sent y s)
+  stops : (starts : Bool) (clock : ℕ) (s : Site) → choice starts (s .core) clock ≡ PassOn
+      → Act k (choosing starts) s ends passing s
   quits : (s : Site) → Act k (choosing false) s ends free s
-  passes : (s : Site) → Act k passing s (sends aToken (tokenTo (ns s) (s .core)) (waitFor (s .core) (afterLast (s .core)))) calm (withCore (passCore (ns s) (s .core)) s)
-  repasses : (s : Site) → (k → s .core .doing .phase ≡ Check) → s .core .doing .sendings < 3 → Act k calm s (sends aToken (tokenTo (ns s) (s .core)) (waitFor (s .core) Other)) calm (sentAgain s)
-  repeats : (y : Priority) (s : Site) → s .core .doing .served ≡ y → (k → s .core .doing .phase ≡ Awaited) → s .core .doing .sendings ≤ s .core .settings .retries .0 → Act k calm s (nextSending y s) calm (sentAgain s)
-  closes : (y : Priority) (p : Phase) (o : Outcome) (x : List ℕ) (s : Site) → s .core .doing .served ≡ y → (k → s .core .doing .phase ≡ p) → (k → Closing p o x) → Act k calm s (closing y o s) (choosing false) (closeOf y o x s .site)
-  takes : (y : Priority) (r : Record) (x : List ℕ) (s : Site) → Accepted (s .core .ts .0) (queueOf y (s .core)) r (length x) → taking y r x s ≡ submitted (s .core .ts .0) (queueOf y (s .core)) r x (rowsOf y s .row) (rowsOf y s .area) → Act k calm s (accepted y (taking y r x s .answer .place)) calm (grownBy y r x s)
-  hands : (y : Priority) (s : Site) → 0 < queueOf y (s .core) .confirmed → Act k calm s (collected y (queueOf y (s .core) .first) (at (rowsOf y s .row) (queueOf y (s .core) .first))) calm (freedOf y s)
+  passes : (s : Site)
+      → Act k passing s (sends aToken (tokenTo (ns s) (s .core)) (waitFor (s .core) (afterLast (s .core)))) calm
+      (withCore (passCore (ns s) (s .core)) s)
+  repasses : (s : Site) → (k → s .core .doing .phase ≡ Check) → s .core .doing .sendings < 3
+      → Act k calm s (sends aToken (tokenTo (ns s) (s .core)) (waitFor (s .core) Other)) calm (sentAgain s)
+  repeats : (y : Priority) (s : Site) → s .core .doing .served ≡ y → (k → s .core .doing .phase ≡ Awaited)
+      → s .core .doing .sendings ≤ s .core .settings .retries .0 → Act k calm s (nextSending y s) calm (sentAgain s)
+  closes : (y : Priority) (p : Phase) (o : Outcome) (x : List ℕ) (s : Site) → s .core .doing .served ≡ y
+      → (k → s .core .doing .phase ≡ p) → (k → Closing p o x)
+      → Act k calm s (closing y o s) (choosing false) (closeOf y o x s .site)
+  takes : (y : Priority) (r : Record) (x : List ℕ) (s : Site)
+      → Accepted (s .core .ts .0) (queueOf y (s .core)) r (length x)
+      → taking y r x s ≡ submitted (s .core .ts .0) (queueOf y (s .core)) r x (rowsOf y s .row) (rowsOf y s .area)
+      → Act k calm s (accepted y (taking y r x s .answer .place)) calm (grownBy y r x s)
+  hands : (y : Priority) (s : Site) → 0 < queueOf y (s .core) .confirmed
+      → Act k calm s (collected y (queueOf y (s .core) .first) (at (rowsOf y s .row) (queueOf y (s .core) .first)))
+      calm (freedOf y s)
   replies : (o : List ℕ) (s : Site) → Act k calm s (A.replies (s .core) o) calm s
   shows : k → (h : Head) (d : Part) (s : Site) → Act k calm s (indicated h d) calm s
   restarts : (s : Site) → Act k calm s resets halting s
-  breaks : (s : Site) → flight (s .core .doing .phase) ≡ true → Act k halting s ends (clearing (countOf High (s .core)) (countOf Low (s .core))) s
-  clears-high : (a b : ℕ) (s : Site) → 0 < s .core .high .unconfirmed → Act k (clearing a b) s (confirmed High (current (s .core .high)) DS a) (clearing 0 b) (filled High (dismissing High a s) s)
-  clears-low : (a b : ℕ) (s : Site) → 0 < s .core .low .unconfirmed → Act k (clearing a b) s (confirmed Low (current (s .core .low)) DS b) (clearing a 0) (filled Low (dismissing Low b s) s)
+  breaks : (s : Site) → flight (s .core .doing .phase) ≡ true
+      → Act k halting s ends (clearing (countOf High (s .core)) (countOf Low (s .core))) s
+  clears-high : (a b : ℕ) (s : Site) → 0 < s .core .high .unconfirmed
+      → Act k (clearing a b) s (confirmed High (current (s .core .high)) DS a) (clearing 0 b)
+      (filled High (dismissing High a s) s)
+  clears-low : (a b : ℕ) (s : Site) → 0 < s .core .low .unconfirmed
+      → Act k (clearing a b) s (confirmed Low (current (s .core .low)) DS b) (clearing a 0)
+      (filled Low (dismissing Low b s) s)
 
 -- ---- moves and acts in a row
 pub data Trail (k : Type 0) : Point → Site → List Event → Point → Site → Type 0 where
   stop : {p : Point} {s : Site} → Trail k p s [] p s
   move : {p q r : Point} {s t u : Site} {l : List Event} → Move k p s q t → Trail k q t l r u → Trail k p s l r u
-  act : {p q r : Point} {s t u : Site} {e : Event} {l : List Event} → Act k p s e q t → Trail k q t l r u → Trail k p s (e ∷ l) r u
+  act : {p q r : Point} {s t u : Site} {e : Event} {l : List Event} → Act k p s e q t → Trail k q t l r u
+      → Trail k p s (e ∷ l) r u

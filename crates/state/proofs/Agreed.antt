@@ -49,7 +49,9 @@ pub meaning-turned : (n : ℕ) → meaning (turned n) ≡ answered (meaning n)
 unfolding meaning turned
 meaning-turned n = turned-by (same n 0) (same n 1)
 
-bits-by : (a b c : Bool) → (a ≡ true → c ≡ true) → (b ≡ true → c ≡ true) → (a ≡ false → b ≡ false → c ≡ false) → bitsFor (pick a (next false) (pick b (next true) unknown)) ≡ record { fcb = pick a false true; fcv = pick c true false }
+bits-by : (a b c : Bool) → (a ≡ true → c ≡ true) → (b ≡ true → c ≡ true) → (a ≡ false → b ≡ false → c ≡ false)
+    → bitsFor (pick a (next false) (pick b (next true) unknown))
+    ≡ record { fcb = pick a false true; fcv = pick c true false }
 unfolding bitsFor pick
 bits-by true b c f g h = rw (f refl)
 bits-by false true c f g h = rw (g refl)
@@ -76,14 +78,16 @@ agree-unknown =
     }
 
 -- one is changed in both
-pub agree-set : (l : List ℕ) (m : ℕ → Mark) (d v : ℕ) (f : Mark → Mark) → d < 127 → meaning v ≡ f (m d) → Agree l m → Agree (set l d v) (λ a. pick (same a d) (f (m a)) (m a))
+pub agree-set : (l : List ℕ) (m : ℕ → Mark) (d v : ℕ) (f : Mark → Mark) → d < 127 → meaning v ≡ f (m d) → Agree l m
+    → Agree (set l d v) (λ a. pick (same a d) (f (m a)) (m a))
 agree-set l m d v f h e z =
     record {
       long = length-set l d v ∙ z .long;
       each = λ a i. by-place a i (same a d) refl;
     }
   where
-    by-place : (a : ℕ) → a < 127 → (b : Bool) → same a d ≡ b → meaning (markOf (set l d v) a) ≡ pick (same a d) (f (m a)) (m a)
+    by-place : (a : ℕ) → a < 127 → (b : Bool) → same a d ≡ b
+        → meaning (markOf (set l d v) a) ≡ pick (same a d) (f (m a)) (m a)
     by-place a i true g =
         let j = true-same a d g in
         ap (λ (k : ℕ). meaning (markOf (set l d v) k)) j
@@ -91,7 +95,8 @@ agree-set l m d v f h e z =
         ∙ e
         ∙ ap (λ (k : ℕ). f (m k)) (sym j)
         ∙ sym (pick-true _ _ g)
-    by-place a i false g = ap meaning (getD-set-other l d a v 0 (false-same a d g)) ∙ z .each a i ∙ sym (pick-false _ _ g)
+    by-place a i false g =
+        ap meaning (getD-set-other l d a v 0 (false-same a d g)) ∙ z .each a i ∙ sym (pick-false _ _ g)
 
 pub agree-like : (l : List ℕ) (m m′ : ℕ → Mark) → ((a : ℕ) → m a ≡ m′ a) → Agree l m → Agree l m′
 agree-like l m m′ h z = record { long = z .long; each = λ a i. z .each a i ∙ h a }
@@ -110,12 +115,14 @@ sd2-field : (a b c : ℕ) (u : List ℕ) → (field (sd2 (a ∷ (b ∷ (c ∷ u)
 unfolding field sd2 pick same
 sd2-field a b c u = (refl, refl)
 
-framed-field : (a b c : ℕ) (u : List ℕ) → (field (framed (a ∷ (b ∷ (c ∷ u)))) 0 ≡ a) × (field (framed (a ∷ (b ∷ (c ∷ u)))) 2 ≡ c)
+framed-field : (a b c : ℕ) (u : List ℕ)
+    → (field (framed (a ∷ (b ∷ (c ∷ u)))) 0 ≡ a) × (field (framed (a ∷ (b ∷ (c ∷ u)))) 2 ≡ c)
 unfolding framed
 framed-field a b c u =
     by (λ (o : List ℕ). (field o 0 ≡ a) × (field o 2 ≡ c)) _ _ _ (λ e. sd1-field a b c u) (λ e. sd2-field a b c u)
 
-pub destination-octets : (h : Head) (x : List ℕ) → h .destination .0 ≤ 127 → destinationIn (octets (Frame h) x) ≡ h .destination .0
+pub destination-octets : (h : Head) (x : List ℕ) → h .destination .0 ≤ 127
+    → destinationIn (octets (Frame h) x) ≡ h .destination .0
 unfolding destinationIn octets body
 destination-octets h x d =
     ap (λ (n : ℕ). n % 128) (framed-field _ _ _ (unit h x) .0) ∙ announced (h .destination .0) (h .to) d
@@ -145,7 +152,8 @@ nearer ts r n e f =
     omega (arith, c, d)
 
 -- ---- its control: the service, and the bits that its mark gives it
-counted-high : (a b : Bool) → (a ≡ true → b ≡ false) → counted (pick a SdaHigh (pick b SdnHigh SrdHigh)) ≡ pick b false true
+counted-high : (a b : Bool) → (a ≡ true → b ≡ false)
+    → counted (pick a SdaHigh (pick b SdnHigh SrdHigh)) ≡ pick b false true
 unfolding pick
 counted-high true b f = rw (f refl)
 counted-high false true f = refl
@@ -166,15 +174,19 @@ counted-service High s = counted-high (same s SDA) (same s SDN) (apart s)
 counted-service Low s = counted-low (same s SDA) (same s SDN) (apart s)
 
 -- an SDN's are 0, 0; another's are those of the mark
-due-by : (b : Bool) (v : Service) (m : Mark) (f g : Bool) → counted v ≡ pick b false true → (b ≡ false → bitsFor m ≡ record { fcb = f; fcv = g }) → pick b (Request v false false) (Request v f g) ≡ Request v (due v m .fcb) (due v m .fcv)
+due-by : (b : Bool) (v : Service) (m : Mark) (f g : Bool) → counted v ≡ pick b false true
+    → (b ≡ false → bitsFor m ≡ record { fcb = f; fcv = g })
+    → pick b (Request v false false) (Request v f g) ≡ Request v (due v m .fcb) (due v m .fcv)
 unfolding due pick
 due-by true v m f g e h = rw e
 due-by false v m f g e h = rw (e, h refl)
 
-pub due-control : (p : Priority) (s n : ℕ) (m : Mark) → (same s SDN ≡ false → meaning n ≡ m) → controlFor p s n ≡ Request (serviceOf p s) (due (serviceOf p s) m .fcb) (due (serviceOf p s) m .fcv)
+pub due-control : (p : Priority) (s n : ℕ) (m : Mark) → (same s SDN ≡ false → meaning n ≡ m)
+    → controlFor p s n ≡ Request (serviceOf p s) (due (serviceOf p s) m .fcb) (due (serviceOf p s) m .fcv)
 unfolding controlFor
 due-control p s n m h =
-    due-by (same s SDN) (serviceOf p s) m (fcbOf n) (fcvOf n) (counted-service p s) (λ e. ap bitsFor (sym (h e)) ∙ meaning-bits n)
+    due-by (same s SDN) (serviceOf p s) m (fcbOf n) (fcvOf n) (counted-service p s)
+    (λ e. ap bitsFor (sym (h e)) ∙ meaning-bits n)
 
 counts-by : (b : Bool) (v : Service) (f g : Bool) → counts (pick b (Request v false false) (Request v f g)) ≡ counted v
 unfolding counts pick

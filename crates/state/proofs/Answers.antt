@@ -64,4 +64,5 @@ module _ (c : Core) (points : List ℕ) (m : Memory) (room : Bool) (high low : L
   pub answering-answer : Answering c (answer c points m room high low h d)
   unfolding answer
   answering-answer =
-      by (Answering c) _ _ _ (λ e. answering-to _) (λ e. by (Answering c) _ _ _ (λ e. answering-to _) (λ e. answering c m [] none))
+      by (Answering c) _ _ _ (λ e. answering-to _)
+      (λ e. by (Answering c) _ _ _ (λ e. answering-to _) (λ e. answering c m [] none))

@@ -40,7 +40,13 @@ returned-is ts r h e =
     let b = both _ _ (a .1) in
     let d = both _ _ (b .1) in
     let f = both _ _ (d .1) in
-    record { destination = true-same _ _ (a .0); source = true-same _ _ (b .0); to = true-same _ _ (d .0); from = true-same _ _ (f .0) }
+    record {
+      destination = true-same _ _ (a .0);
+      source = true-same _ _ (b .0);
+      to = true-same _ _ (d .0);
+      from = true-same
+          _ _ (f .0);
+    }
 
 unfoldable plausible : Verdict → Bool
 plausible (Plausible n) = true
@@ -63,12 +69,16 @@ unfolding judged
 lifts-apart ts r h n s e = apart ts r h n s (h .control) e
 
 -- ---- "repeats the remembered reply's octets, with no indication"
-module _ (c : Core) (points : List ℕ) (m : Memory) (isSda fcb fcv room : Bool) (high low : List ℕ) (h : Head) (p : Part) where
+module _ (c : Core) (points : List ℕ) (m : Memory) (isSda fcb fcv room : Bool) (high low : List ℕ) (h : Head)
+    (p : Part) where
   pub repeat-silent : reserved (h .to) ≡ false → repeated (m .kept) (h .source .0) fcb fcv ≡ true
       → answerCounted c points m isSda fcb fcv room high low h p ≡ answered m (replies c (recalled m) ∷ [])
   unfolding answerCounted
   repeat-silent f e =
-      rw (pick-false {b = said (reserved (h .to))} _ _ (said-false refl f), pick-true {b = said (repeated (m .kept) (h .source .0) fcb fcv)} _ _ (said-true refl e))
+      rw (
+        pick-false {b = said (reserved (h .to))} _ _ (said-false refl f),
+        pick-true {b = said (repeated (m .kept) (h .source .0) fcb fcv)} _ _ (said-true refl e),
+      )
 
 -- ---- "high first"
 pub high-shown : (high low : List ℕ) → 0 < length high → shown high low ≡ high

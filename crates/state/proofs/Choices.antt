@@ -49,7 +49,8 @@ pub saw-high : (starts : Bool) (c : Core) (clock : ℕ) → choice starts c cloc
 unfolding Saw
 saw-high starts c clock e = rw e at (saw starts c clock)
 
-pub saw-low : (starts : Bool) (c : Core) (clock : ℕ) → choice starts c clock ≡ Serve Low → (0 < c .low .unconfirmed) × (c .high .unconfirmed ≡ 0)
+pub saw-low : (starts : Bool) (c : Core) (clock : ℕ) → choice starts c clock ≡ Serve Low
+    → (0 < c .low .unconfirmed) × (c .high .unconfirmed ≡ 0)
 unfolding Saw
 saw-low starts c clock e = rw e at (saw starts c clock)
 
@@ -96,7 +97,8 @@ stays-refuse : (n : ℕ) (w : World) → Stays (refuse n w)
 unfolding refuse opens
 stays-refuse n w = record { stays = refl }
 
-shut-token : (clock d a : ℕ) (s : Site) → (a ≡ s .core .ps .0 → ⊥) → (a ≡ s .core .stranger .0 → ⊥) → Shut (token clock d a s)
+shut-token : (clock d a : ℕ) (s : Site) → (a ≡ s .core .ps .0 → ⊥) → (a ≡ s .core .stranger .0 → ⊥)
+    → Shut (token clock d a s)
 unfolding token
 shut-token clock d a s p q =
     by Shut _ _ _
@@ -109,8 +111,10 @@ shut-givenUp : (s : Site) → Shut (givenUp s)
 unfolding givenUp andThen close closeOf over done opens
 shut-givenUp s = record { shut = refl }
 
-module _ (clock : ℕ) (room : Bool) (high low octets : List ℕ) (d a : Address) (p : Part) (e : read octets ≡ Read (Token d a) p) where
-  stays-idle : (w : World) → (a .0 ≡ w .site .core .ps .0 → ⊥) → (a .0 ≡ w .site .core .stranger .0 → ⊥) → Stays (idleRead clock room high low (read octets) w)
+module _ (clock : ℕ) (room : Bool) (high low octets : List ℕ) (d a : Address) (p : Part)
+    (e : read octets ≡ Read (Token d a) p) where
+  stays-idle : (w : World) → (a .0 ≡ w .site .core .ps .0 → ⊥) → (a .0 ≡ w .site .core .stranger .0 → ⊥)
+      → Stays (idleRead clock room high low (read octets) w)
   unfolding idleRead idle
   stays-idle w h k = rw e (stays-called _ w (shut-token clock _ _ (w .site) h k))
 
@@ -118,7 +122,8 @@ module _ (clock : ℕ) (room : Bool) (high low octets : List ℕ) (d a : Address
   unfolding awaitedRead judged concluded
   shut-awaited s = rw e (shut-givenUp s)
 
-  stays-heard : (x : Phase) (w : World) → (a .0 ≡ w .site .core .ps .0 → ⊥) → (a .0 ≡ w .site .core .stranger .0 → ⊥) → Stays (heard x clock room high low octets w)
+  stays-heard : (x : Phase) (w : World) → (a .0 ≡ w .site .core .ps .0 → ⊥) → (a .0 ≡ w .site .core .stranger .0 → ⊥)
+      → Stays (heard x clock room high low octets w)
   unfolding heard withSite rest withCore withDoing
   stays-heard Idle w h k = stays-idle w h k
   stays-heard Awaited w h k = stays-called _ w (shut-awaited (w .site))
@@ -126,11 +131,14 @@ module _ (clock : ℕ) (room : Bool) (high low octets : List ℕ) (d a : Address
   stays-heard Check w h k = stays-idle _ h k
   stays-heard ToSelf w h k = stays-nothing w
 
-  stays-frame : (out : ℕ) (w : World) → (a .0 ≡ w .site .core .ps .0 → ⊥) → (a .0 ≡ w .site .core .stranger .0 → ⊥) → Stays (Calls.frame clock room high low octets out w)
+  stays-frame : (out : ℕ) (w : World) → (a .0 ≡ w .site .core .ps .0 → ⊥) → (a .0 ≡ w .site .core .stranger .0 → ⊥)
+      → Stays (Calls.frame clock room high low octets out w)
   unfolding Calls.frame
   stays-frame out w h k = by Stays _ _ _ (λ i. stays-heard _ w h k) (λ i. stays-refuse _ w)
 
   -- a token of a station that is neither PS nor the stranger of a first token begins no hold, whatever the state
-  pub first-token : (out : ℕ) (w : World) → (a .0 ≡ w .site .core .ps .0 → ⊥) → (a .0 ≡ w .site .core .stranger .0 → ⊥) → opens (call (frame clock room high low octets out) w .events) ≡ false
+  pub first-token : (out : ℕ) (w : World) → (a .0 ≡ w .site .core .ps .0 → ⊥)
+      → (a .0 ≡ w .site .core .stranger .0 → ⊥)
+      → opens (call (frame clock room high low octets out) w .events) ≡ false
   unfolding call
   first-token out w h k = stays-frame out w h k .stays

@@ -57,7 +57,8 @@ waiting-served d (ours h e z o l t) = unserved d o l t
 waiting-served d (ahead h e z o t) = unserved d o (omega arith) t
 waiting-served d (lower h e o) = unserved d (o .fresh) (omega arith) (o .time)
 
-standing-served : {p k limit : ℕ} {t : Settings} {g : Doing} {q : Queue} {row : List ℕ} {f : Fate} → Standing p k limit t g q row f → Served k limit f
+standing-served : {p k limit : ℕ} {t : Settings} {g : Doing} {q : Queue} {row : List ℕ} {f : Fate}
+    → Standing p k limit t g q row f → Served k limit f
 standing-served (waits d u w s) = waiting-served d s
 standing-served (shut u w a o) =
     record {
@@ -79,7 +80,8 @@ standing-served (gone o) =
     }
 
 -- ---- at its acceptance
-lawful-odd : (c : Core) (masters started : List ℕ) (k : Kept) → lawless c masters started k ≡ false → oddIn (c .doing .phase) c masters ≡ false
+lawful-odd : (c : Core) (masters started : List ℕ) (k : Kept) → lawless c masters started k ≡ false
+    → oddIn (c .doing .phase) c masters ≡ false
 unfolding lawless
 lawful-odd c masters started k e =
     let a = unrefused _ _ e in
@@ -87,13 +89,15 @@ lawful-odd c masters started k e =
     unrefused _ _ (b .1) .1
 
 -- what is being sent from the high queue is in it
-some-sent : (x : Phase) (c : Core) (masters : List ℕ) → oddIn x c masters ≡ false → flight x ≡ true → c .doing .served ≡ High → 0 < c .high .unconfirmed
+some-sent : (x : Phase) (c : Core) (masters : List ℕ) → oddIn x c masters ≡ false → flight x ≡ true
+    → c .doing .served ≡ High → 0 < c .high .unconfirmed
 unfolding queueOf
 some-sent x c masters o h e =
     let n = false-same _ _ (rw e at (sym (odd-by x c masters ∙ pick-true _ _ h) ∙ o)) in
     omega (arith, n)
 
-stage-new : (k limit : ℕ) (g : Doing) (b : Bool) (y : Priority) → flight (g .phase) ≡ b → g .served ≡ y → (flight (g .phase) ≡ true → g .served ≡ High → 0 < k) → Stage k limit k g newborn
+stage-new : (k limit : ℕ) (g : Doing) (b : Bool) (y : Priority) → flight (g .phase) ≡ b → g .served ≡ y
+    → (flight (g .phase) ≡ true → g .served ≡ High → 0 < k) → Stage k limit k g newborn
 unfolding newborn
 stage-new k limit g false y h e s = off h (record { quiet = refl; fresh = fresh-born; time = omega arith })
 stage-new k limit g true High h e s = ahead h e (s h e) fresh-born (omega arith)
@@ -122,7 +126,11 @@ module _ (p k limit : ℕ) where
   unfolding refuse refuses
   never-refused n w = record { enters = λ e. absurd (true≢false (ap refuses e)) }
 
-  stands-new : (ts : ℕ) (r : Record) (x : List ℕ) (l : Left Taken) (w : World) → w .site .core .high .unconfirmed ≡ k → w .site .core .settings .retries .0 ≡ limit → oddIn (w .site .core .doing .phase) (w .site .core) (w .site .masters) ≡ false → Outcome ts (w .site .core .high) r x (w .site .high .row) (w .site .high .area) l → Enters p k limit (called (submitting High l (w .site)) w)
+  stands-new : (ts : ℕ) (r : Record) (x : List ℕ) (l : Left Taken) (w : World) → w .site .core .high .unconfirmed ≡ k
+      → w .site .core .settings .retries .0 ≡ limit
+      → oddIn (w .site .core .doing .phase) (w .site .core) (w .site .masters) ≡ false
+      → Outcome ts (w .site .core .high) r x (w .site .high .row) (w .site .high .area) l
+      → Enters p k limit (called (submitting High l (w .site)) w)
   unfolding called withSite submitting done withRows withCore withQueue take Q.refuse placed refuses
   stands-new ts r x l w e t o (as-it-was n z i) =
       rw (← i)
@@ -131,10 +139,18 @@ module _ (p k limit : ℕ) where
   stands-new ts r x l w e t o (with-it u v a i) =
       rw (← i)
       (by (λ (d : Done). Enters p k limit (called d w)) _ _ _
-      (λ b. record { enters = λ q. rw (← ap placed q, ← e, ← t) (waits _ (record { limits = refl; rowed = rowed-grown _ _ _ (record { ruled = u; long = v .places }) (a .room) }) (waiting-new _) (stage-new _ _ _ _ _ refl refl (some-sent _ (w .site .core) (w .site .masters) o))) })
+      (λ b. record {
+        enters = λ q. rw (← ap placed q, ← e, ← t)
+            (waits _
+            (record
+            { limits = refl; rowed = rowed-grown _ _ _ (record { ruled = u; long = v .places }) (a .room) })
+            (waiting-new _)
+            (stage-new _ _ _ _ _ refl refl (some-sent _ (w .site .core) (w .site .masters) o)));
+      })
       (λ b. record { enters = λ q. absurd (true≢false (ap refuses q)) }))
 
-  submit-enters : (r : Record) (x : List ℕ) (w : World) → w .site .core .high .unconfirmed ≡ k → w .site .core .settings .retries .0 ≡ limit → Enters p k limit (Calls.submit High r x w)
+  submit-enters : (r : Record) (x : List ℕ) (w : World) → w .site .core .high .unconfirmed ≡ k
+      → w .site .core .settings .retries .0 ≡ limit → Enters p k limit (Calls.submit High r x w)
   unfolding Calls.submit queueOf rowsOf
   submit-enters r x w e t =
       by (Enters p k limit) _ _ _ (λ b. never-refused 21 w)
@@ -142,13 +158,22 @@ module _ (p k limit : ℕ) where
       (λ b. stands-new _ r x _ w e t (lawful-odd _ _ _ _ (is-said b)) (outcome _ _ r x _ _)))
 
 -- ---- the theorem, of any world that accepts the request
-pub served : (w : World) (r : Record) (x : List ℕ) (p : ℕ) (after : List Call) → call (submit High r x) w .events ≡ accepted High p ∷ [] → Served (w .site .core .high .unconfirmed) (w .site .core .settings .retries .0) (fate p (run after (call (submit High r x) w .world) .events) newborn)
+pub served : (w : World) (r : Record) (x : List ℕ) (p : ℕ) (after : List Call)
+    → call (submit High r x) w .events ≡ accepted High p ∷ []
+    → Served (w .site .core .high .unconfirmed) (w .site .core .settings .retries .0)
+    (fate p (run after (call (submit High r x) w .world) .events) newborn)
 unfolding call
 served w r x p after e =
-    standing-served (holds-run p _ _ after (Calls.submit High r x w .world) newborn (submit-enters p _ _ r x w refl refl .enters e) .stands)
+    standing-served
+    (holds-run p _ _ after (Calls.submit High r x w .world) newborn (submit-enters p _ _ r x w refl refl .enters e)
+    .stands)
 
 -- demand 3: "After a start and before any other, if each call is given the station's state and each queue row, data
 -- included, just as the call before left them": of all calls before the request and all calls after it
-pub demand-3 : (w : World) (b : Begun w) (before after : List Call) (r : Record) (x : List ℕ) (p : ℕ) → call (submit High r x) (run before w .world) .events ≡ accepted High p ∷ [] → Served (run before w .world .site .core .high .unconfirmed) (b .settings .retries .0) (fate p (run after (call (submit High r x) (run before w .world) .world) .events) newborn)
+pub demand-3 : (w : World) (b : Begun w) (before after : List Call) (r : Record) (x : List ℕ) (p : ℕ)
+    → call (submit High r x) (run before w .world) .events ≡ accepted High p ∷ []
+    → Served (run before w .world .site .core .high .unconfirmed) (b .settings .retries .0)
+    (fate p (run after (call (submit High r x) (run before w .world) .world) .events) newborn)
 demand-3 w b before after r x p e =
-    rw (run-orderly (b .settings) (b .ts) before w (begun-orderly w b) .firm .settings) at (served (run before w .world) r x p after e)
+    rw (run-orderly (b .settings) (b .ts) before w (begun-orderly w b) .firm .settings) at
+    (served (run before w .world) r x p after e)

@@ -83,9 +83,12 @@ unsent limit d n f h e =
       later = λ z. h .sendings;
     }
 
-dismissible : {k limit d : ℕ} (c : Core) {f : Fate} → Stage k limit d (c .doing) f → Dismissible limit d (countOf High c) f
+dismissible : {k limit d : ℕ} (c : Core) {f : Fate} → Stage k limit d (c .doing) f
+    → Dismissible limit d (countOf High c) f
 unfolding countOf
-dismissible c (off h o) = unsent _ _ _ _ (o .fresh) (ap (sendingsOf (c .doing .served) High) (begun-by (c .doing .phase) _ ∙ pick-false _ _ h) ∙ none-of _)
+dismissible c (off h o) =
+    unsent _ _ _ _ (o .fresh)
+    (ap (sendingsOf (c .doing .served) High) (begun-by (c .doing .phase) _ ∙ pick-false _ _ h) ∙ none-of _)
 dismissible c (ours h e z o l t) =
     record {
       confirmations = o .confirmations;
@@ -144,39 +147,59 @@ Emptying p limit n t q row f = Between p limit (λ d f. Dismissible limit d n f)
 
 module _ (p limit : ℕ) where
   -- an event that leaves it all but the same
-  emptying-same : {n : ℕ} {t : Settings} {q : Queue} {row : List ℕ} (e : Event) (m : Fate → Fate) (f : Fate) → ((f : Fate) → f .collected ≡ false → fate p (e ∷ []) f ≡ m f) → ((f : Fate) → Same f (m f)) → Emptying p limit n t q row f → Emptying p limit n t q row (fate p (e ∷ []) f)
+  emptying-same : {n : ℕ} {t : Settings} {q : Queue} {row : List ℕ} (e : Event) (m : Fate → Fate) (f : Fate)
+      → ((f : Fate) → f .collected ≡ false → fate p (e ∷ []) f ≡ m f) → ((f : Fate) → Same f (m f))
+      → Emptying p limit n t q row f → Emptying p limit n t q row (fate p (e ∷ []) f)
   emptying-same e m f h i (waits d g w o) = rw (h f (o .collected)) (waits d g w (dismissible-same (i f) o))
   emptying-same e m f h i (shut g w o) = rw (h f (o .collected)) (shut g (rw (i f .sendings) w) (paid-same (i f) o))
   emptying-same e m f h i (gone z) = stayed-gone p 0 limit (e ∷ []) f z
 
-  emptying-calm : {k : ℕ} {row : List ℕ} {q : Queue} (c : Core) (f : Fate) → Standing p k limit (c .settings) (c .doing) q row f → Emptying p limit (countOf High c) (c .settings) q row f
+  emptying-calm : {k : ℕ} {row : List ℕ} {q : Queue} (c : Core) (f : Fate)
+      → Standing p k limit (c .settings) (c .doing) q row f
+      → Emptying p limit (countOf High c) (c .settings) q row f
   emptying-calm c f (waits d g w s) = waits d g w (dismissible c s)
   emptying-calm c f (shut g w a o) = shut g w o
   emptying-calm c f (gone z) = gone z
 
-  pub emptying-resets : {k : ℕ} {row : List ℕ} {q : Queue} (c : Core) (f : Fate) → Standing p k limit (c .settings) (c .doing) q row f → Emptying p limit (countOf High c) (c .settings) q row (fate p (resets ∷ []) f)
+  pub emptying-resets : {k : ℕ} {row : List ℕ} {q : Queue} (c : Core) (f : Fate)
+      → Standing p k limit (c .settings) (c .doing) q row f
+      → Emptying p limit (countOf High c) (c .settings) q row (fate p (resets ∷ []) f)
   emptying-resets c f h =
       emptying-same resets wasReset f (λ f e. fate-one p resets f e ∙ meets-resets p f) same-reset (emptying-calm c f h)
 
-  pub emptying-ends : {n : ℕ} {t : Settings} {q : Queue} {row : List ℕ} (f : Fate) → Emptying p limit n t q row f → Emptying p limit n t q row (fate p (ends ∷ []) f)
+  pub emptying-ends : {n : ℕ} {t : Settings} {q : Queue} {row : List ℕ} (f : Fate) → Emptying p limit n t q row f
+      → Emptying p limit n t q row (fate p (ends ∷ []) f)
   emptying-ends f h = emptying-same ends holdEnded f (λ f e. fate-one p ends f e ∙ meets-ends p f) same-ended h
 
   -- a confirmation of the high queue's first
-  pub emptying-high : (n : ℕ) (t : Settings) (q : Queue) (row area : List ℕ) (f : Fate) → 0 < q .unconfirmed → Emptying p limit n t q row f → Emptying p limit 0 t (Q.confirmed q) (confirm q DS n [] row area .row) (fate p (confirmed High (current q) DS n ∷ []) f)
+  pub emptying-high : (n : ℕ) (t : Settings) (q : Queue) (row area : List ℕ) (f : Fate) → 0 < q .unconfirmed
+      → Emptying p limit n t q row f
+      → Emptying p limit 0 t (Q.confirmed q) (confirm q DS n [] row area .row)
+      (fate p (confirmed High (current q) DS n ∷ []) f)
   emptying-high n t q row area f h (waits zero g w o) =
-      rw (fate-one p (confirmed High (current q) DS n) f (o .collected), meets-confirmed p (current q) DS n f (current-ours p q w))
-      (shut (ground-closed q DS n [] row area g h) (rw (sent-dismissed limit n f o) (shut-now p n q row (g .rowed) DS [] area w)) (paid-dismissed limit n f o))
+      rw (
+        fate-one p (confirmed High (current q) DS n) f (o .collected),
+        meets-confirmed p (current q) DS n f (current-ours p q w),
+      )
+      (shut (ground-closed q DS n [] row area g h)
+      (rw (sent-dismissed limit n f o) (shut-now p n q row (g .rowed) DS [] area w)) (paid-dismissed limit n f o))
   emptying-high n t q row area f h (waits (suc d) g w o) =
       let i : suc d - 1 ≡ d = omega arith in
-      rw (stays p (confirmed High (current q) DS n) f (meets-another p (current q) DS n f (current-ahead p (suc d) q (g .rowed .ruled) (omega arith) w)))
-      (waits d (ground-closed q DS n [] row area g h) (rw i at (waiting-confirmed p (suc d) q (omega arith) w)) (next-dismissed limit d n f o))
+      rw
+      (stays p (confirmed High (current q) DS n) f
+      (meets-another p (current q) DS n f (current-ahead p (suc d) q (g .rowed .ruled) (omega arith) w)))
+      (waits d (ground-closed q DS n [] row area g h) (rw i at (waiting-confirmed p (suc d) q (omega arith) w))
+      (next-dismissed limit d n f o))
   emptying-high n t q row area f h (shut g w o) =
-      rw (stays p (confirmed High (current q) DS n) f (meets-another p (current q) DS n f (current-shut p (f .sendings) q row (g .rowed .ruled) h w)))
+      rw
+      (stays p (confirmed High (current q) DS n) f
+      (meets-another p (current q) DS n f (current-shut p (f .sendings) q row (g .rowed .ruled) h w)))
       (shut (ground-closed q DS n [] row area g h) (shut-confirmed p (f .sendings) q row (g .rowed) DS n [] area h w) o)
   emptying-high n t q row area f h (gone z) = stayed-gone p 0 limit _ f z
 
   -- none is left
-  pub emptied : {k n : ℕ} {t : Settings} {q : Queue} {row : List ℕ} {f : Fate} → q .unconfirmed ≡ 0 → Emptying p limit n t q row f → Between p limit (Off k) t q row f
+  pub emptied : {k n : ℕ} {t : Settings} {q : Queue} {row : List ℕ} {f : Fate} → q .unconfirmed ≡ 0
+      → Emptying p limit n t q row f → Between p limit (Off k) t q row f
   emptied e (waits d g w o) = absurd (omega (arith, w .within))
   emptied e (shut g w o) = shut g w o
   emptied e (gone z) = gone z

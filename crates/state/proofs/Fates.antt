@@ -22,7 +22,8 @@ unfolding fate
 frozen p [] f h = refl
 frozen p (e ∷ l) f h = pick-true _ _ h
 
-pub fate-step : (p : ℕ) (e : Event) (l : List Event) (f : Fate) → f .collected ≡ false → fate p (e ∷ l) f ≡ fate p l (meets p e f)
+pub fate-step : (p : ℕ) (e : Event) (l : List Event) (f : Fate) → f .collected ≡ false
+    → fate p (e ∷ l) f ≡ fate p l (meets p e f)
 unfolding fate
 fate-step p e l f h = pick-false _ _ h
 
@@ -30,7 +31,9 @@ pub fate-one : (p : ℕ) (e : Event) (f : Fate) → f .collected ≡ false → f
 unfolding fate
 fate-one p e f h = pick-false _ _ h
 
-append-by : (p : ℕ) (e : Event) (a b : List Event) (f : Fate) (c : Bool) → f .collected ≡ c → fate p (a ++ b) (meets p e f) ≡ fate p b (fate p a (meets p e f)) → fate p (e ∷ (a ++ b)) f ≡ fate p b (fate p (e ∷ a) f)
+append-by : (p : ℕ) (e : Event) (a b : List Event) (f : Fate) (c : Bool) → f .collected ≡ c
+    → fate p (a ++ b) (meets p e f) ≡ fate p b (fate p a (meets p e f))
+    → fate p (e ∷ (a ++ b)) f ≡ fate p b (fate p (e ∷ a) f)
 append-by p e a b f true h i =
     frozen p (e ∷ (a ++ b)) f h ∙ sym (frozen p b f h) ∙ ap (fate p b) (sym (frozen p (e ∷ a) f h))
 append-by p e a b f false h i = fate-step p e (a ++ b) f h ∙ i ∙ ap (fate p b) (sym (fate-step p e a f h))
@@ -55,7 +58,8 @@ unmoved p e l f h = by-collected (f .collected) refl
 pub stays : (p : ℕ) (e : Event) (f : Fate) → meets p e f ≡ f → fate p (e ∷ []) f ≡ f
 stays p e f h = unmoved p e [] f h ∙ fate-none p f
 
-pub meets-sent : (p n : ℕ) (o : List ℕ) (t : ℕ) (f : Fate) → n ≡ p → meets p (sends (aRequest High n) o t) f ≡ sentOnce f
+pub meets-sent : (p n : ℕ) (o : List ℕ) (t : ℕ) (f : Fate) → n ≡ p
+    → meets p (sends (aRequest High n) o t) f ≡ sentOnce f
 unfolding meets sentWhat ofHigh
 meets-sent p n o t f e = pick-true _ _ (same-true e)
 
@@ -99,7 +103,8 @@ pub meets-lower : (p n s k : ℕ) (f : Fate) → meets p (confirmed Low n s k) f
 unfolding meets ofHigh
 meets-lower p n s k f = refl
 
-pub meets-collected : (p n : ℕ) (r : Record) (f : Fate) → n ≡ p → meets p (collected High n r) f ≡ collectedWith (r .count) f
+pub meets-collected : (p n : ℕ) (r : Record) (f : Fate) → n ≡ p
+    → meets p (collected High n r) f ≡ collectedWith (r .count) f
 unfolding meets ofHigh
 meets-collected p n r f e = pick-true _ _ (same-true e)
 
@@ -166,15 +171,23 @@ fresh-born = record { confirmations = refl; reset = refl; collected = refl; send
 pub fresh-sent : (n : ℕ) (f : Fate) → Fresh n f → Fresh (n + 1) (sentOnce f)
 unfolding sentOnce
 fresh-sent n f h =
-    record { confirmations = h .confirmations; reset = h .reset; collected = h .collected; sendings = ap (λ (m : ℕ). m + 1) (h .sendings) }
+    record {
+      confirmations = h .confirmations;
+      reset = h .reset;
+      collected = h .collected;
+      sendings = ap (λ (m : ℕ). m + 1)
+          (h .sendings);
+    }
 
 pub fresh-begun : (n : ℕ) (f : Fate) → Fresh n f → Fresh n (holdBegun f)
 unfolding holdBegun
-fresh-begun n f h = record { confirmations = h .confirmations; reset = h .reset; collected = h .collected; sendings = h .sendings }
+fresh-begun n f h =
+    record { confirmations = h .confirmations; reset = h .reset; collected = h .collected; sendings = h .sendings }
 
 pub fresh-ended : (n : ℕ) (f : Fate) → Fresh n f → Fresh n (holdEnded f)
 unfolding holdEnded
-fresh-ended n f h = record { confirmations = h .confirmations; reset = h .reset; collected = h .collected; sendings = h .sendings }
+fresh-ended n f h =
+    record { confirmations = h .confirmations; reset = h .reset; collected = h .collected; sendings = h .sendings }
 
 pub paid-now : (n limit : ℕ) (f : Fate) → Fresh n f → n ≤ limit + 1 → Paid limit (confirmedWith n f)
 unfolding confirmedWith
@@ -188,11 +201,13 @@ paid-now n limit f h l =
 
 pub paid-begun : (limit : ℕ) (f : Fate) → Paid limit f → Paid limit (holdBegun f)
 unfolding holdBegun
-paid-begun limit f h = record { confirmations = h .confirmations; count = h .count; collected = h .collected; few = h .few }
+paid-begun limit f h =
+    record { confirmations = h .confirmations; count = h .count; collected = h .collected; few = h .few }
 
 pub paid-ended : (limit : ℕ) (f : Fate) → Paid limit f → Paid limit (holdEnded f)
 unfolding holdEnded
-paid-ended limit f h = record { confirmations = h .confirmations; count = h .count; collected = h .collected; few = h .few }
+paid-ended limit f h =
+    record { confirmations = h .confirmations; count = h .count; collected = h .collected; few = h .few }
 
 pub gone-now : (n limit : ℕ) (f : Fate) → Paid limit f → n ≡ f .sendings → Gone limit (collectedWith n f)
 unfolding collectedWith

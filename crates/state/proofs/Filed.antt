@@ -47,38 +47,53 @@ unfolding named pick less same
 named-DS = refl
 
 -- a record put at the place of another in use
-unharmed : (i j : ℕ) (q : Queue) (row : List ℕ) (r : Record) → Ruled q → length row ≡ SIZE * q .places → i < q .places → j < q .places → (i ≡ j → ⊥) → at (put row (place q i) r) (place q j) ≡ at row (place q j)
+unharmed : (i j : ℕ) (q : Queue) (row : List ℕ) (r : Record) → Ruled q → length row ≡ SIZE * q .places → i < q .places
+    → j < q .places → (i ≡ j → ⊥) → at (put row (place q i) r) (place q j) ≡ at row (place q j)
 unharmed i j q row r u l h n d =
     let b = place-below q i u (omega arith) in
     at-other row (place q i) (place q j) r (omega arith) (λ e. d (place-apart q i j h n e))
 
 module _ (q : Queue) (row : List ℕ) (u : Ruled q) (l : length row ≡ SIZE * q .places) (z : Named q row) where
   -- ---- a confirmation
-  confirmed-before : (status count j : ℕ) (x area : List ℕ) → 0 < q .unconfirmed → j < q .confirmed → named (at (confirm q status count x row area .row) (place q j) .status) ≡ true
+  confirmed-before : (status count j : ℕ) (x area : List ℕ) → 0 < q .unconfirmed → j < q .confirmed
+      → named (at (confirm q status count x row area .row) (place q j) .status) ≡ true
   unfolding confirm current
   confirmed-before status count j x area h n =
-      rw (unharmed (q .confirmed) j q row (closed (at row (place q (q .confirmed))) status count (length x)) u l (omega (arith, u .used)) (omega (arith, u .used)) (λ e. omega arith))
+      rw
+      (unharmed (q .confirmed) j q row (closed (at row (place q (q .confirmed))) status count (length x)) u l
+      (omega (arith, u .used)) (omega (arith, u .used)) (λ e. omega arith))
       (z .name j n)
 
-  confirmed-now : (status count : ℕ) (x area : List ℕ) → named status ≡ true → named (at (confirm q status count x row area .row) (place q (q .confirmed)) .status) ≡ true
+  confirmed-now : (status count : ℕ) (x area : List ℕ) → named status ≡ true
+      → named (at (confirm q status count x row area .row) (place q (q .confirmed)) .status) ≡ true
   unfolding confirm current closed
   confirmed-now status count x area e =
       let b = place-below q (q .confirmed) u (omega (arith, u .used)) in
-      rw (at-put row (place q (q .confirmed)) (closed (at row (place q (q .confirmed))) status count (length x)) (omega arith)) e
+      rw
+      (at-put row (place q (q .confirmed)) (closed (at row (place q (q .confirmed))) status count (length x))
+      (omega arith)) e
 
-  pub named-confirmed : (status count : ℕ) (x area : List ℕ) → 0 < q .unconfirmed → named status ≡ true → Named (confirmed q) (confirm q status count x row area .row)
+  pub named-confirmed : (status count : ℕ) (x area : List ℕ) → 0 < q .unconfirmed → named status ≡ true
+      → Named (confirmed q) (confirm q status count x row area .row)
   unfolding confirmed
   named-confirmed status count x area h e =
       record {
-        name = λ j n. rw (place-confirmed q j) (by-order j (q .confirmed) (λ m. confirmed-before status count j x area h m) (λ m. let i : j ≡ q .confirmed = omega arith in rw i (confirmed-now status count x area e)));
+        name =
+            λ j n. rw (place-confirmed q j)
+            (by-order j (q .confirmed) (λ m. confirmed-before status count j x area h m) (λ m. let i : j ≡ q .confirmed = omega arith in rw i (confirmed-now status count x area e)));
       }
 
   -- ---- submit
-  pub named-grown : (r : Record) → q .confirmed + q .unconfirmed < q .places → Named (grown q) (put row (place q (q .confirmed + q .unconfirmed)) r)
+  pub named-grown : (r : Record) → q .confirmed + q .unconfirmed < q .places
+      → Named (grown q) (put row (place q (q .confirmed + q .unconfirmed)) r)
   unfolding grown
   named-grown r h =
       record {
-        name = λ j n. rw (place-grown q j, unharmed (q .confirmed + q .unconfirmed) j q row r u l h (omega (arith, u .used)) (λ e. omega arith)) (z .name j n);
+        name =
+            λ j n. rw (
+              place-grown q j,
+              unharmed (q .confirmed + q .unconfirmed) j q row r u l h (omega (arith, u .used)) (λ e. omega arith),
+            ) (z .name j n);
       }
 
   -- ---- collect
@@ -92,7 +107,13 @@ named-empty q row e = record { name = λ j n. absurd (omega arith) }
 
 -- ---- all of it
 module _ (ts : ℕ) (q : Queue) (r : Rows) (k : Filed ts q r) where
-  pub filed-confirmed : (status count : ℕ) (x : List ℕ) → 0 < q .unconfirmed → named status ≡ true → length x ≤ AREA → Filed ts (confirmed q) (record { row = confirm q status count x (r .row) (r .area) .row; area = confirm q status count x (r .row) (r .area) .area })
+  pub filed-confirmed : (status count : ℕ) (x : List ℕ) → 0 < q .unconfirmed → named status ≡ true → length x ≤ AREA
+      → Filed ts (confirmed q)
+      (record {
+        row = confirm q status count x (r .row) (r .area) .row;
+        area = confirm q status count x (r .row)
+            (r .area) .area;
+      })
   filed-confirmed status count x h e n =
       record {
         ruled = ruled-confirmed q h (k .ruled);
@@ -111,19 +132,27 @@ module _ (ts : ℕ) (q : Queue) (r : Rows) (k : Filed ts q r) where
         status = named-freed q (r .row) (k .ruled) (k .lent .places) (k .status) h;
       }
 
-named-after : (ts : ℕ) (q : Queue) (e : Record) (x row area : List ℕ) {l : Left Taken} → Ruled q → length row ≡ SIZE * q .places → Named q row → Outcome ts q e x row area l → Named (l .answer .queue) (l .row)
+named-after : (ts : ℕ) (q : Queue) (e : Record) (x row area : List ℕ) {l : Left Taken} → Ruled q
+    → length row ≡ SIZE * q .places → Named q row → Outcome ts q e x row area l → Named (l .answer .queue) (l .row)
 unfolding refuse take
 named-after ts q e x row area u l z (as-it-was n d i) = rw (← i) z
 named-after ts q e x row area u l z (with-it v m a i) = rw (← i) (named-grown q row u l z _ (a .room))
 
-filed-submitted : (ts : ℕ) (q : Queue) (r : Rows) (e : Record) (x : List ℕ) → Filed ts q r → Filed ts (submitted ts q e x (r .row) (r .area) .answer .queue) (record { row = submitted ts q e x (r .row) (r .area) .row; area = submitted ts q e x (r .row) (r .area) .area })
+filed-submitted : (ts : ℕ) (q : Queue) (r : Rows) (e : Record) (x : List ℕ) → Filed ts q r
+    → Filed ts (submitted ts q e x (r .row) (r .area) .answer .queue)
+    (record
+    { row = submitted ts q e x (r .row) (r .area) .row; area = submitted ts q e x (r .row) (r .area) .area })
 filed-submitted ts q r e x k =
     record {
       ruled = ruled-submitted ts q e x (r .row) (r .area) (k .ruled) (k .lent);
       lent = lent-submitted ts q e x (r .row) (r .area) (k .ruled) (k .lent);
       sound = sound-submitted ts q e x (r .row) (r .area) (k .sound);
-      status = named-after ts q e x (r .row) (r .area) (k .ruled) (k .lent .places) (k .status) (outcome ts q e x (r .row) (r .area));
+      status =
+          named-after ts q e x (r .row) (r .area) (k .ruled) (k .lent .places) (k .status)
+          (outcome ts q e x (r .row) (r .area));
     }
 
-pub filed-taken : (ts : ℕ) (q : Queue) (r : Rows) (e : Record) (x : List ℕ) (l : Left Taken) → l ≡ submitted ts q e x (r .row) (r .area) → Filed ts q r → Filed ts (l .answer .queue) (record { row = l .row; area = l .area })
+pub filed-taken : (ts : ℕ) (q : Queue) (r : Rows) (e : Record) (x : List ℕ) (l : Left Taken)
+    → l ≡ submitted ts q e x (r .row) (r .area) → Filed ts q r
+    → Filed ts (l .answer .queue) (record { row = l .row; area = l .area })
 filed-taken ts q r e x l i k = rw i (filed-submitted ts q r e x k)

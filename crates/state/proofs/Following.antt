@@ -20,7 +20,8 @@ use Rattle.state.specs.Counts.{heeds, history, Turn, first, again, Right
 use Rattle.state.specs.Counts.{aims, unaimed, Succession}
 use Rattle.state.proofs.Cases.{by}
 use Rattle.state.proofs.Cases.{Any, any}
-use Rattle.state.proofs.Tally.{Sent, Meets, Counts, counts-split, settled-lost, settled-replied, closes-own}
+use Rattle.state.proofs.Keeping.{ofSendings}
+use Rattle.state.proofs.Tally.{Sent, Counts, counts-split, settled-lost, settled-replied, closes-own}
 use Rattle.state.proofs.FrameCounts.{sends-rightly, counts-begun}
 
 -- ---- events in a row
@@ -44,7 +45,8 @@ bits-service : (s : Service) (m : Mark) → counted s ≡ true → due s m ≡ b
 unfolding due
 bits-service s m e = pick-true _ _ e
 
-bits-right : (h : History) (p : Priority) (n : ℕ) (o : List ℕ) → Rightly h p n o → counts (controlIn o) ≡ true → bitsIn o ≡ bitsFor (h .marks (destinationIn o))
+bits-right : (h : History) (p : Priority) (n : ℕ) (o : List ℕ) → Rightly h p n o → counts (controlIn o) ≡ true
+    → bitsIn o ≡ bitsFor (h .marks (destinationIn o))
 unfolding bitsIn bitsOf counts
 bits-right h p n o r c =
     ap bitsOf (r .control) ∙ bits-service (r .service) (h .marks (destinationIn o)) (sym (ap counts (r .control)) ∙ c)
@@ -61,7 +63,8 @@ octets-of : Pending → List ℕ
 octets-of none = []
 octets-of (sent p n o) = o
 
-sent-again : (p q : Priority) (n j : ℕ) (o u : List ℕ) (h : History) (x : Pending) → h .pending ≡ x → x ≡ sent p n o → Turn q j u x → record { marks = h .marks; pending = sent q j u } ≡ h
+sent-again : (p q : Priority) (n j : ℕ) (o u : List ℕ) (h : History) (x : Pending) → h .pending ≡ x → x ≡ sent p n o
+    → Turn q j u x → record { marks = h .marks; pending = sent q j u } ≡ h
 unfolding is-none
 sent-again p q n j o u h x e f first = absurd (true≢false (ap is-none f))
 sent-again p q n j o u h x e f again = pending-same h _ e
@@ -73,7 +76,8 @@ not-both true true y e = absurd (true≢false (sym e))
 not-both true false y e = ((λ f. refl), e)
 not-both false b y e = ((λ f. absurd (true≢false (sym f))), e)
 
-closes-other : (q p : Priority) (m n status : ℕ) (o : List ℕ) (h : History) → (alike q p ≡ true → same m n ≡ false) → closes q m status (sent p n o) h ≡ h
+closes-other : (q p : Priority) (m n status : ℕ) (o : List ℕ) (h : History) → (alike q p ≡ true → same m n ≡ false)
+    → closes q m status (sent p n o) h ≡ h
 unfolding closes
 closes-other q p m n status o h k =
     by (λ (x : History). x ≡ h) _ _ _
@@ -81,8 +85,9 @@ closes-other q p m n status o h k =
     (λ e. refl)
 
 module _ (p : Priority) (n : ℕ) (o : List ℕ) where
-  stands : (l : List Event) (h : History) → h .pending ≡ sent p n o → unclosed p n l ≡ true → Counts h l → history l h ≡ h
-  unfolding history heeds goes unclosed Counts Meets Sent
+  stands : (l : List Event) (h : History) → h .pending ≡ sent p n o → unclosed p n l ≡ true → Counts h l
+      → history l h ≡ h
+  unfolding history heeds goes unclosed Counts ofSendings Sent
   stands [] h e u c = refl
   stands (accepted q m ∷ l) h e u c = stands l h e u (c .1)
   stands (begins ∷ l) h e u c = stands l h e u (c .1)
@@ -116,12 +121,14 @@ unmarked true true x y e = absurd (true≢false e)
 unmarked true false x y e = refl
 unmarked false c x y e = refl
 
-kept-closed : (a : ℕ) (q : Priority) (m status : ℕ) (h : History) (x : Pending) → h .pending ≡ x → Clear a x → Kept a h (closes q m status x h)
+kept-closed : (a : ℕ) (q : Priority) (m status : ℕ) (h : History) (x : Pending) → h .pending ≡ x → Clear a x
+    → Kept a h (closes q m status x h)
 unfolding closes Clear aims marksBy
 kept-closed a q m status h none e c = record { mark = refl; clear = rw e any }
 kept-closed a q m status h (sent p n o) e c =
     by (Kept a h) _ _ _
-    (λ f. by (Kept a h) _ _ _ (λ g. record { mark = unmarked _ _ _ _ c; clear = any }) (λ g. record { mark = refl; clear = rw e c }))
+    (λ f. by (Kept a h) _ _ _ (λ g. record { mark = unmarked _ _ _ _ c; clear = any })
+    (λ g. record { mark = refl; clear = rw e c }))
     (λ f. record { mark = refl; clear = rw e c })
 
 clear-sent : (a : ℕ) (q : Priority) (j : ℕ) (x : List ℕ) → aims a (aRequest q j) x ≡ false → Clear a (sent q j x)
@@ -165,7 +172,9 @@ unfolding bitsFor
 bits-unknown = refl
 
 -- ---- after the start, and after a reset, the first to an address goes with FCB 1, FCV 0
-from-unheard : (l after : List Event) (p : Priority) (n : ℕ) (o : List ℕ) (wait : ℕ) → Counts unheard (l ++ (sends (aRequest p n) o wait ∷ after)) → unaimed (destinationIn o) l ≡ true → counts (controlIn o) ≡ true → bitsIn o ≡ record { fcb = true; fcv = false }
+from-unheard : (l after : List Event) (p : Priority) (n : ℕ) (o : List ℕ) (wait : ℕ)
+    → Counts unheard (l ++ (sends (aRequest p n) o wait ∷ after)) → unaimed (destinationIn o) l ≡ true
+    → counts (controlIn o) ≡ true → bitsIn o ≡ record { fcb = true; fcv = false }
 from-unheard l after p n o wait c u k =
     bits-right _ p n o (sends-rightly p n o wait _ (counts-split l after _ unheard c)) k
     ∙ ap bitsFor (kept _ l unheard (clear-none _ _ none-unheard) u ∙ unknown-unheard (destinationIn o))
@@ -181,15 +190,20 @@ unfolding is-none octets-of
 turn-same p n o u x e first = absurd (true≢false (ap is-none e))
 turn-same p n o u x e again = ap octets-of e
 
-sent-then : (h : History) (p : Priority) (n : ℕ) (o : List ℕ) (wait : ℕ) (l : List Event) → Counts h (sends (aRequest p n) o wait ∷ l) → Rightly h p n o × Counts (record { marks = h .marks; pending = sent p n o }) l
-unfolding Counts Meets Sent heeds goes
+sent-then : (h : History) (p : Priority) (n : ℕ) (o : List ℕ) (wait : ℕ) (l : List Event)
+    → Counts h (sends (aRequest p n) o wait ∷ l)
+    → Rightly h p n o × Counts (record { marks = h .marks; pending = sent p n o }) l
+unfolding Counts ofSendings Sent heeds goes
 sent-then h p n o wait l c = c
 
-repeated : (before between after : List Event) (p : Priority) (n : ℕ) (o u : List ℕ) (wait wait′ : ℕ) → Counts unheard (before ++ (sends (aRequest p n) o wait ∷ (between ++ (sends (aRequest p n) u wait′ ∷ after)))) → unclosed p n between ≡ true → u ≡ o
+repeated : (before between after : List Event) (p : Priority) (n : ℕ) (o u : List ℕ) (wait wait′ : ℕ)
+    → Counts unheard (before ++ (sends (aRequest p n) o wait ∷ (between ++ (sends (aRequest p n) u wait′ ∷ after))))
+    → unclosed p n between ≡ true → u ≡ o
 repeated before between after p n o u wait wait′ c h =
     let i = sent-then _ p n o wait _ (suffix before _ unheard c) .1 in
     let j = stands p n o between _ refl h (prefix between _ _ i) in
-    turn-same p n o u _ (ap (λ (x : History). x .pending) j) (sends-rightly p n u wait′ _ (counts-split between after _ _ i) .turn)
+    turn-same p n o u _ (ap (λ (x : History). x .pending) j)
+    (sends-rightly p n u wait′ _ (counts-split between after _ _ i) .turn)
 
 -- ---- a request, its confirmation, and the next to its address: the bits of the later are those of the mark that the
 -- confirmation left, the bits of the earlier those of the mark before
@@ -198,11 +212,14 @@ unfolding bitsFor answered following pick
 bits-answered unknown = refl
 bits-answered (next b) = refl
 
-marks-settled : (status : ℕ) (o : List ℕ) (m : ℕ → Mark) (a : ℕ) → counts (controlIn o) ≡ true → a ≡ destinationIn o → marksBy status o m a ≡ settled status (m a)
+marks-settled : (status : ℕ) (o : List ℕ) (m : ℕ → Mark) (a : ℕ) → counts (controlIn o) ≡ true → a ≡ destinationIn o
+    → marksBy status o m a ≡ settled status (m a)
 unfolding marksBy
 marks-settled status o m a c e = pick-true _ _ c ∙ pick-true _ _ (same-true e)
 
-closed-then : (h : History) (p : Priority) (n status k : ℕ) (o : List ℕ) (l : List Event) → h .pending ≡ sent p n o → Counts h (confirmed p n status k ∷ l) → Counts (record { marks = marksBy status o (h .marks); pending = none }) l
+closed-then : (h : History) (p : Priority) (n status k : ℕ) (o : List ℕ) (l : List Event) → h .pending ≡ sent p n o
+    → Counts h (confirmed p n status k ∷ l)
+    → Counts (record { marks = marksBy status o (h .marks); pending = none }) l
 unfolding Counts heeds
 closed-then h p n status k o l e c = rw (closes-own p n status o h e) at (c .1)
 
@@ -219,36 +236,55 @@ module _ {e : List Event} (x : Succession e) where
   abbrev ended : History
   ended = record { marks = marksBy (x .status) (x .earlier) (start .marks); pending = none }
 
-  successive : Counts unheard e → (bitsIn (x .later) ≡ bitsFor (settled (x .status) (start .marks (destinationIn (x .earlier))))) × (bitsIn (x .earlier) ≡ bitsFor (start .marks (destinationIn (x .earlier))))
+  successive : Counts unheard e
+      → (bitsIn (x .later) ≡ bitsFor (settled (x .status) (start .marks (destinationIn (x .earlier)))))
+      × (bitsIn (x .earlier) ≡ bitsFor (start .marks (destinationIn (x .earlier))))
   successive c =
-      let i = sent-then start (x .queue) (x .place) (x .earlier) (x .earlierWait) _ (suffix (x .before) _ unheard (rw (x .told) at c)) in
-      let j = stands (x .queue) (x .place) (x .earlier) (x .until) going refl (x .unanswered) (prefix (x .until) _ going (i .1)) in
+      let i = sent-then start (x .queue) (x .place) (x .earlier) (x .earlierWait) _
+      (suffix (x .before) _ unheard (rw (x .told) at c)) in
+      let j = stands (x .queue) (x .place) (x .earlier) (x .until) going refl (x .unanswered)
+      (prefix (x .until) _ going (i .1)) in
       let k = closed-then going (x .queue) (x .place) (x .status) (x .count) (x .earlier) _ refl (rw j at (suffix (x .until) _ going (i .1))) in (
-        bits-right _ _ _ (x .later) (sends-rightly (x .nextQueue) (x .nextPlace) (x .later) (x .laterWait) _ (counts-split (x .since) (x .after) _ ended k)) (x .laterCounts)
-            ∙ ap bitsFor (kept _ (x .since) ended (clear-none _ _ refl) (x .next) ∙ marks-settled (x .status) (x .earlier) (start .marks) _ (x .earlierCounts) (x .address) ∙ ap (λ (a : ℕ). settled (x .status) (start .marks a)) (x .address)),
+        bits-right _ _ _ (x .later)
+            (sends-rightly (x .nextQueue) (x .nextPlace) (x .later) (x .laterWait) _
+            (counts-split (x .since) (x .after) _ ended k)) (x .laterCounts)
+            ∙ ap bitsFor
+            (kept _ (x .since) ended (clear-none _ _ refl) (x .next) ∙ marks-settled (x .status) (x .earlier)
+            (start .marks) _ (x .earlierCounts) (x .address) ∙ ap
+            (λ (a : ℕ). settled (x .status) (start .marks a)) (x .address)),
         bits-right start _ _ (x .earlier) (i .0) (x .earlierCounts),
       )
 
 module _ (w : World) (b : Begun w) (l : List Call) where
-  pub first-bits : (before after : List Event) (p : Priority) (n : ℕ) (o : List ℕ) (wait : ℕ) → run l w .events ≡ before ++ (sends (aRequest p n) o wait ∷ after) → unaimed (destinationIn o) before ≡ true → counts (controlIn o) ≡ true → bitsIn o ≡ record { fcb = true; fcv = false }
+  pub first-bits : (before after : List Event) (p : Priority) (n : ℕ) (o : List ℕ) (wait : ℕ)
+      → run l w .events ≡ before ++ (sends (aRequest p n) o wait ∷ after) → unaimed (destinationIn o) before ≡ true
+      → counts (controlIn o) ≡ true → bitsIn o ≡ record { fcb = true; fcv = false }
   first-bits before after p n o wait e u k = from-unheard before after p n o wait (rw e at (counts-begun w b l)) u k
 
-  pub reset-bits : (before since after : List Event) (p : Priority) (n : ℕ) (o : List ℕ) (wait : ℕ) → run l w .events ≡ before ++ (resets ∷ (since ++ (sends (aRequest p n) o wait ∷ after))) → unaimed (destinationIn o) since ≡ true → counts (controlIn o) ≡ true → bitsIn o ≡ record { fcb = true; fcv = false }
+  pub reset-bits : (before since after : List Event) (p : Priority) (n : ℕ) (o : List ℕ) (wait : ℕ)
+      → run l w .events ≡ before ++ (resets ∷ (since ++ (sends (aRequest p n) o wait ∷ after)))
+      → unaimed (destinationIn o) since ≡ true → counts (controlIn o) ≡ true
+      → bitsIn o ≡ record { fcb = true; fcv = false }
   reset-bits before since after p n o wait e u k =
       from-unheard since after p n o wait (after-reset _ _ (suffix before _ unheard (rw e at (counts-begun w b l)))) u k
 
   -- "the same octets again": a request that is sent and not confirmed goes the next time with the same octets
-  pub same-octets : (before between after : List Event) (p : Priority) (n : ℕ) (o u : List ℕ) (wait wait′ : ℕ) → run l w .events ≡ before ++ (sends (aRequest p n) o wait ∷ (between ++ (sends (aRequest p n) u wait′ ∷ after))) → unclosed p n between ≡ true → u ≡ o
+  pub same-octets : (before between after : List Event) (p : Priority) (n : ℕ) (o u : List ℕ) (wait wait′ : ℕ)
+      → run l w .events
+      ≡ before ++ (sends (aRequest p n) o wait ∷ (between ++ (sends (aRequest p n) u wait′ ∷ after)))
+      → unclosed p n between ≡ true → u ≡ o
   same-octets before between after p n o u wait wait′ e h =
       repeated before between after p n o u wait wait′ (rw e at (counts-begun w b l)) h
 
   -- after a plausible reply FCV 1 with the other bit, or with 0 after FCV 0; after NA FCB 1, FCV 0
-  pub after-reply : (x : Succession (run l w .events)) → (x .status ≡ NA → ⊥) → bitsIn (x .later) ≡ following (bitsIn (x .earlier))
+  pub after-reply : (x : Succession (run l w .events)) → (x .status ≡ NA → ⊥)
+      → bitsIn (x .later) ≡ following (bitsIn (x .earlier))
   after-reply x h =
       let i = successive x (counts-begun w b l) in
       i .0 ∙ ap bitsFor (settled-replied (x .status) _ h) ∙ bits-answered _ ∙ ap following (sym (i .1))
 
-  pub after-na : (x : Succession (run l w .events)) → x .status ≡ NA → bitsIn (x .later) ≡ record { fcb = true; fcv = false }
+  pub after-na : (x : Succession (run l w .events)) → x .status ≡ NA
+      → bitsIn (x .later) ≡ record { fcb = true; fcv = false }
   after-na x h =
       let i = successive x (counts-begun w b l) in
       i .0 ∙ ap bitsFor (settled-na (x .status) _ h) ∙ bits-unknown

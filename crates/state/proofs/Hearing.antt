@@ -142,8 +142,10 @@ low-judged ts r (Token d s) n = low-code Ok
 low-judged ts r Short n = by (λ (m : ℕ). m < NA) _ _ _ (λ e. low-code Ok) (λ e. low-code Nr)
 low-judged ts r (Frame h) n = low-judgedBy ts r h n (h .control)
 
-pub lawful-judged : (s : List ℕ) (f : Fields) (p : Part) (ts : ℕ) (r : Record) → read s ≡ Read f p → Lawful (shown s p) (judged ts r f (p .count))
-lawful-judged s f p ts r e = record { status = named-judged ts r f (p .count); low = low-judged ts r f (p .count); short = read-short s f p e }
+pub lawful-judged : (s : List ℕ) (f : Fields) (p : Part) (ts : ℕ) (r : Record) → read s ≡ Read f p
+    → Lawful (shown s p) (judged ts r f (p .count))
+lawful-judged s f p ts r e =
+    record { status = named-judged ts r f (p .count); low = low-judged ts r f (p .count); short = read-short s f p e }
 
 -- ---- how long a reply is
 length-extension : (a : Access) → length (extension a) ≤ 1
@@ -154,7 +156,8 @@ length-extension (At p) = omega arith
 length-framed : (b : List ℕ) → length (framed b) ≤ length b + 6
 unfolding framed sd1 sd2 closing
 length-framed b =
-    by (λ (l : List ℕ). length l ≤ length b + 6) _ _ _ (λ e. simp length-append (omega arith)) (λ e. simp length-append (omega arith))
+    by (λ (l : List ℕ). length l ≤ length b + 6) _ _ _ (λ e. simp length-append (omega arith))
+    (λ e. simp length-append (omega arith))
 
 length-body : (h : Head) (x : List ℕ) → length (body h x) ≤ length x + 5
 unfolding body unit
@@ -184,20 +187,24 @@ minds-answered : (m : Memory) (e : List Event) → Memorable m → Minds (answer
 unfolding answered
 minds-answered m e z = record { memory = z }
 
-minds-remembered : (m : Memory) (a : Address) (fcb fcv : Bool) (x : List ℕ) → a .0 ≤ 126 → length x ≤ 255 → Memorable m → Memorable (remembered m a fcb fcv x)
+minds-remembered : (m : Memory) (a : Address) (fcb fcv : Bool) (x : List ℕ) → a .0 ≤ 126 → length x ≤ 255
+    → Memorable m → Memorable (remembered m a fcb fcv x)
 unfolding remembered
 minds-remembered m a fcb fcv x h l z = by Memorable _ _ _ (λ e. record { source = omega arith; reply = l }) (λ e. z)
 
-module _ (c : Core) (points : List ℕ) (m : Memory) (room : Bool) (high low : List ℕ) (h : Head) (d : Part) (z : Memorable m) (s : h .source .0 ≤ 126) (u : length high ≤ 244) (l : length low ≤ 244) where
+module _ (c : Core) (points : List ℕ) (m : Memory) (room : Bool) (high low : List ℕ) (h : Head) (d : Part)
+    (z : Memorable m) (s : h .source .0 ≤ 126) (u : length high ≤ 244) (l : length low ≤ 244) where
   minds-new : (n : New) (fcb fcv : Bool) → Minds (answerNew c m n fcb fcv (A.shown high low) h d)
   unfolding answerNew
   minds-new n fcb fcv =
-      minds-answered _ _ (minds-remembered m (h .source) fcb fcv _ s (reply-short _ h (n .given) _ (shown-short high low u l)) z)
+      minds-answered _ _
+      (minds-remembered m (h .source) fcb fcv _ s (reply-short _ h (n .given) _ (shown-short high low u l)) z)
 
   minds-counted : (isSda fcb fcv : Bool) → Minds (answerCounted c points m isSda fcb fcv room high low h d)
   unfolding answerCounted
   minds-counted isSda fcb fcv =
-      by Minds _ _ _ (λ e. minds-answered m _ z) (λ e. by Minds _ _ _ (λ e. minds-answered m _ z) (λ e. minds-new _ fcb fcv))
+      by Minds _ _ _ (λ e. minds-answered m _ z)
+      (λ e. by Minds _ _ _ (λ e. minds-answered m _ z) (λ e. minds-new _ fcb fcv))
 
   minds-as : (a : Asks) (fcb fcv : Bool) → Minds (answerAs a c points m fcb fcv room high low h d)
   unfolding answerAs

@@ -62,7 +62,8 @@ tells-none m (indicated i d ∷ l) h = tells-none m l h
 tells-none m (resets ∷ l) h = tells-none m l h
 tells-none m (refused n ∷ l) h = absurd (true≢false h)
 
-tells-refused : (m n : ℕ) (a b : List Event) → tells m (refused n ∷ a) ≡ false → (tells m a ≡ false → tells m (a ++ b) ≡ false) → tells m (refused n ∷ (a ++ b)) ≡ false
+tells-refused : (m n : ℕ) (a b : List Event) → tells m (refused n ∷ a) ≡ false
+    → (tells m a ≡ false → tells m (a ++ b) ≡ false) → tells m (refused n ∷ (a ++ b)) ≡ false
 unfolding tells
 tells-refused m n a b h f = by-test (same n m) refl
   where
@@ -106,7 +107,8 @@ spared-accepted : (p : Priority) (s : Site) (n : ℕ) (w : World) → Spared (ca
 unfolding called done tells
 spared-accepted p s n w = record { spared = refl }
 
-spared-collected : (p : Priority) (n : ℕ) (r : Record) (q : Queue) (w : World) → Spared (called (collecting p (Handed n r q) (w .site)) w)
+spared-collected : (p : Priority) (n : ℕ) (r : Record) (q : Queue) (w : World)
+    → Spared (called (collecting p (Handed n r q) (w .site)) w)
 unfolding called collecting done tells
 spared-collected p n r q w = record { spared = refl }
 
@@ -130,30 +132,36 @@ stored-not : (t : Taken) (x row area : List ℕ) → (t .refused ≡ 29 → ⊥)
 unfolding stored
 stored-not t x row area h = by (λ (l : Left Taken). l .answer .refused ≡ 29 → ⊥) _ _ _ (λ e. h) (λ e. h)
 
-submitted-not : (ts : ℕ) (q : Queue) (r : Record) (x row area : List ℕ) → Ruled q → submitted ts q r x row area .answer .refused ≡ 29 → ⊥
+submitted-not : (ts : ℕ) (q : Queue) (r : Record) (x row area : List ℕ) → Ruled q
+    → submitted ts q r x row area .answer .refused ≡ 29 → ⊥
 unfolding submitted Q.refuse
 submitted-not ts q r x row area u =
     by (λ (l : Left Taken). l .answer .refused ≡ 29 → ⊥) _ _ _ (λ e. stored-not _ x row area (λ z. omega arith))
     (λ e. by (λ (l : Left Taken). l .answer .refused ≡ 29 → ⊥) _ _ _ (λ e. absurd (true≢false (sym (is-said e) ∙ not-overfull q u)))
     (λ e. stored-not _ x row area (taken-not ts q r (length x))))
 
-spared-submitting : (y : Priority) (l : Left Taken) (w : World) → (l .answer .refused ≡ 29 → ⊥) → Spared (called (submitting y l (w .site)) w)
+spared-submitting : (y : Priority) (l : Left Taken) (w : World) → (l .answer .refused ≡ 29 → ⊥)
+    → Spared (called (submitting y l (w .site)) w)
 unfolding submitting
 spared-submitting y l w h =
     by (λ (d : Done). Spared (called d w)) _ _ _ (λ e. spared-accepted y _ _ w) (λ e. spared-refused _ _ w h)
 
 -- ---- collect
-spared-uncollected : (y : Priority) (n : ℕ) (w : World) → (n ≡ 29 → ⊥) → Spared (called (collecting y (Uncollected n) (w .site)) w)
+spared-uncollected : (y : Priority) (n : ℕ) (w : World) → (n ≡ 29 → ⊥)
+    → Spared (called (collecting y (Uncollected n) (w .site)) w)
 unfolding collecting
 spared-uncollected y n w h = spared-refused n _ w h
 
-first-named : (ts : ℕ) (q : Queue) (r : Rows) → Filed ts q r → (q .confirmed ≡ 0 → ⊥) → named (at (r .row) (q .first) .status) ≡ true
+first-named : (ts : ℕ) (q : Queue) (r : Rows) → Filed ts q r → (q .confirmed ≡ 0 → ⊥)
+    → named (at (r .row) (q .first) .status) ≡ true
 first-named ts q r k h = rw (place-first q (k .ruled)) at (k .status .name 0 (omega (arith, h)))
 
-spared-collecting : (y : Priority) (ts : ℕ) (q : Queue) (r : Rows) (w : World) → Filed ts q r → Spared (called (collecting y (handed q (r .row) (r .area)) (w .site)) w)
+spared-collecting : (y : Priority) (ts : ℕ) (q : Queue) (r : Rows) (w : World) → Filed ts q r
+    → Spared (called (collecting y (handed q (r .row) (r .area)) (w .site)) w)
 unfolding handed Q.collected
 spared-collecting y ts q r w k =
-    by (λ (c : Collected). Spared (called (collecting y c (w .site)) w)) _ _ _ (λ e. spared-uncollected y 21 w (λ z. omega arith))
+    by (λ (c : Collected). Spared (called (collecting y c (w .site)) w)) _ _ _
+    (λ e. spared-uncollected y 21 w (λ z. omega arith))
     (λ e. by (λ (c : Collected). Spared (called (collecting y c (w .site)) w)) _ _ _ (λ e. absurd (true≢false (sym (is-said e) ∙ not-overfull q (k .ruled))))
     (λ e. by (λ (c : Collected). Spared (called (collecting y c (w .site)) w)) _ _ _ (λ e. spared-uncollected y 28 w (λ z. omega arith))
     (λ e. by (λ (c : Collected). Spared (called (collecting y c (w .site)) w)) _ _ _ (λ i. spared-collected y _ _ _ w)
@@ -193,19 +201,26 @@ module _ (t : Settings) (ts : ℕ) (w : World) (o : Orderly t ts w) where
       by Spared _ _ _ (λ e. not-21)
       (λ e. by Spared _ _ _ (λ e. not-21) (λ e. by Spared _ _ _ (λ e. lawful e) (λ e. spared-told (told-resetting w))))
 
-  spared-frame : (clock : ℕ) (room : Bool) (high low octets : List ℕ) (out : ℕ) → Spared (Calls.frame clock room high low octets out w)
+  spared-frame : (clock : ℕ) (room : Bool) (high low octets : List ℕ) (out : ℕ)
+      → Spared (Calls.frame clock room high low octets out w)
   unfolding Calls.frame
   spared-frame clock room high low octets out =
-      by Spared _ _ _ (λ e. let u = short-updates out (length high) (length low) w (true-same _ _ e) in spared-told (told-carried (carried-heard clock room high low octets (u .0) (u .1) _ w refl)))
+      by Spared _ _ _
+      (λ e. let u = short-updates out (length high) (length low) w (true-same _ _ e) in spared-told
+      (told-carried (carried-heard clock room high low octets (u .0) (u .1) _ w refl)))
       (λ e. spared-refuse _ w (never-29-in t ts w o out _ _))
 
   spared-sent : (clock out : ℕ) → Spared (Calls.sent clock out w)
   unfolding Calls.sent
-  spared-sent clock out = by Spared _ _ _ (λ e. spared-told (told-carried (carried-sent clock w))) (λ e. spared-refuse _ w (never-29-in t ts w o out _ _))
+  spared-sent clock out =
+      by Spared _ _ _ (λ e. spared-told (told-carried (carried-sent clock w)))
+      (λ e. spared-refuse _ w (never-29-in t ts w o out _ _))
 
   spared-slot : (clock out : ℕ) → Spared (Calls.slot clock out w)
   unfolding Calls.slot
-  spared-slot clock out = by Spared _ _ _ (λ e. spared-told (told-carried (carried-slot clock w))) (λ e. spared-refuse _ w (never-29-in t ts w o out _ _))
+  spared-slot clock out =
+      by Spared _ _ _ (λ e. spared-told (told-carried (carried-slot clock w)))
+      (λ e. spared-refuse _ w (never-29-in t ts w o out _ _))
 
   spared-call : (c : Call) → Spared (call c w)
   unfolding call
@@ -223,8 +238,10 @@ no-29 : tells 29 [] ≡ false
 unfolding tells
 no-29 = refl
 
-pub run-never-29 : (t : Settings) (ts : ℕ) (l : List Call) (w : World) → Orderly t ts w → tells 29 (run l w .events) ≡ false
+pub run-never-29 : (t : Settings) (ts : ℕ) (l : List Call) (w : World) → Orderly t ts w
+    → tells 29 (run l w .events) ≡ false
 unfolding run
 run-never-29 t ts [] w o = no-29
 run-never-29 t ts (c ∷ l) w o =
-    tells-append 29 (call c w .events) (run l (call c w .world) .events) (never-29 t ts w o c) (run-never-29 t ts l (call c w .world) (call-orderly t ts c w o))
+    tells-append 29 (call c w .events) (run l (call c w .world) .events) (never-29 t ts w o c)
+    (run-never-29 t ts l (call c w .world) (call-orderly t ts c w o))

@@ -40,12 +40,14 @@ says : {b r : Bool} → b ≡ r → said b ≡ r
 unfolding said
 says e = e
 
-startable : (t : Settings) (ts : ℕ) (masters : List ℕ) → unruly t ≡ false → ts ≤ 126 → member masters ts ≡ true → unstartable t ts masters ≡ false
+startable : (t : Settings) (ts : ℕ) (masters : List ℕ) → unruly t ≡ false → ts ≤ 126 → member masters ts ≡ true
+    → unstartable t ts masters ≡ false
 unfolding unstartable
 startable t ts masters r s m =
     pick-false _ _ (says r) ∙ pick-false _ _ (less-false s) ∙ pick-true _ _ (says m)
 
-addressed : (ps stranger source : ℕ) → ps ≤ 126 → stranger ≤ 127 → source ≤ 127 → misaddressed ps stranger source ≡ false
+addressed : (ps stranger source : ℕ) → ps ≤ 126 → stranger ≤ 127 → source ≤ 127
+    → misaddressed ps stranger source ≡ false
 unfolding misaddressed
 addressed ps stranger source a b c =
     pick-false _ _ (less-false a) ∙ pick-false _ _ (less-false b) ∙ pick-false _ _ (less-false c)
@@ -60,17 +62,21 @@ unfolding queueBy queueOf
 queue-by High c = refl
 queue-by Low c = refl
 
-loaded-some : (y : Priority) (c : Core) → 0 < queueBy y (c .high) (c .low) .unconfirmed → same (queueOf y c .unconfirmed) 0 ≡ false
+loaded-some : (y : Priority) (c : Core) → 0 < queueBy y (c .high) (c .low) .unconfirmed
+    → same (queueOf y c .unconfirmed) 0 ≡ false
 loaded-some y c h = same-false (λ e. omega (arith, ap (λ (q : Queue). q .unconfirmed) (queue-by y c)))
 
-even : {limit n : ℕ} (x : Phase) (c : Core) (masters u v : List ℕ) → Apt limit n (c .ts .0) masters (c .high) (c .low) u v x (c .doing .served) → oddIn x c masters ≡ false
+even : {limit n : ℕ} (x : Phase) (c : Core) (masters u v : List ℕ)
+    → Apt limit n (c .ts .0) masters (c .high) (c .low) u v x (c .doing .served) → oddIn x c masters ≡ false
 even x c masters u v a =
     odd-by x c masters
     ∙ by (λ (b : Bool). b ≡ false) _ _ _ (λ h. loaded-some _ c (a .flying h .some))
     (λ h. by (λ (b : Bool). b ≡ false) _ _ _ (λ h. same-false (a .check h))
     (λ h. by (λ (b : Bool). b ≡ false) _ _ _ (λ h. pick-true _ _ (same-true (a .self h))) (λ h. refl)))
 
-alike : {limit n : ℕ} (x : Phase) (c : Core) (masters u v : List ℕ) → Apt limit n (c .ts .0) masters (c .high) (c .low) u v x (c .doing .served) → unlikeIn x (inFlight c u v .service) ≡ false
+alike : {limit n : ℕ} (x : Phase) (c : Core) (masters u v : List ℕ)
+    → Apt limit n (c .ts .0) masters (c .high) (c .low) u v x (c .doing .served)
+    → unlikeIn x (inFlight c u v .service) ≡ false
 unfolding inFlight
 alike x c masters u v a = by-flight (flight x) refl
   where

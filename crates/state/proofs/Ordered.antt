@@ -16,7 +16,8 @@ module _ (t : Settings) (ts : ℕ) where
   unfolding AptIn
   poised w o = record { firm = o .firm; apt = o .apt }
 
-  orderly-course : {w : World} {d : Called} → Course w d → Orderly t ts w → Poised t ts calm (d .world .site) → Orderly t ts (d .world)
+  orderly-course : {w : World} {d : Called} → Course w d → Orderly t ts w → Poised t ts calm (d .world .site)
+      → Orderly t ts (d .world)
   unfolding refuse
   orderly-course (declined n) o g = o
   orderly-course (carried c) o g =

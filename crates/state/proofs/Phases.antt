@@ -58,7 +58,11 @@ begun-by Sdn n = refl
 begun-by Check n = refl
 begun-by ToSelf n = refl
 
-pub odd-by : (x : Phase) (c : Core) (masters : List ℕ) → oddIn x c masters ≡ pick (flight x) (same (queueOf (c .doing .served) c .unconfirmed) 0) (pick (checking x) (same (nextOf masters (c .ts .0)) (c .ts .0)) (pick (selfing x) (pick (same (nextOf masters (c .ts .0)) (c .ts .0)) false true) false))
+pub odd-by : (x : Phase) (c : Core) (masters : List ℕ)
+    → oddIn x c masters
+    ≡ pick (flight x) (same (queueOf (c .doing .served) c .unconfirmed) 0)
+    (pick (checking x) (same (nextOf masters (c .ts .0)) (c .ts .0))
+    (pick (selfing x) (pick (same (nextOf masters (c .ts .0)) (c .ts .0)) false true) false))
 unfolding flight checking selfing oddIn pick
 odd-by Idle c masters = refl
 odd-by Awaited c masters = refl

@@ -50,13 +50,16 @@ current-ours p q w =
 pub current-ahead : (p d : ℕ) (q : Queue) → Ruled q → 0 < d → Waiting p d q → current q ≡ p → ⊥
 unfolding current
 current-ahead p d q r h w e =
-    let f = place-apart q (q .confirmed) (q .confirmed + d) (omega (arith, r .used, w .within)) (omega (arith, r .used, w .within)) (e ∙ w .is) in
+    let f = place-apart q (q .confirmed) (q .confirmed + d) (omega (arith, r .used, w .within))
+    (omega (arith, r .used, w .within)) (e ∙ w .is) in
     omega arith
 
-pub current-shut : (p n : ℕ) (q : Queue) (row : List ℕ) → Ruled q → 0 < q .unconfirmed → Shut p n q row → current q ≡ p → ⊥
+pub current-shut : (p n : ℕ) (q : Queue) (row : List ℕ) → Ruled q → 0 < q .unconfirmed → Shut p n q row
+    → current q ≡ p → ⊥
 unfolding current
 current-shut p n q row r h s e =
-    let f = place-apart q (q .confirmed) (s .turn) (omega (arith, r .used)) (omega (arith, r .used, s .within)) (e ∙ s .is) in
+    let f = place-apart q (q .confirmed) (s .turn) (omega (arith, r .used)) (omega (arith, r .used, s .within))
+    (e ∙ s .is) in
     omega (arith, s .within)
 
 -- one confirmed leaves one less
@@ -84,13 +87,16 @@ unfolding freed
 waiting-freed p d q r h w =
     let e : q .confirmed - 1 + d + 1 ≡ q .confirmed + d = omega arith in
     record {
-      is = w .is ∙ ap (place q) (sym e) ∙ sym (place-freed q (q .confirmed - 1 + d) r (omega (arith, r .used, w .within)));
+      is =
+          w .is ∙ ap (place q) (sym e) ∙ sym
+          (place-freed q (q .confirmed - 1 + d) r (omega (arith, r .used, w .within)));
       within = w .within;
     }
 
 -- ---- shut
 -- a record put at another place in use leaves it
-unharmed : (p n i : ℕ) (q : Queue) (row : List ℕ) (r : Record) → Rowed q row → i < q .places → (s : Shut p n q row) → (i ≡ s .turn → ⊥) → at (put row (place q i) r) p .count ≡ n
+unharmed : (p n i : ℕ) (q : Queue) (row : List ℕ) (r : Record) → Rowed q row → i < q .places → (s : Shut p n q row)
+    → (i ≡ s .turn → ⊥) → at (put row (place q i) r) p .count ≡ n
 unharmed p n i q row r u h s d =
     let b = place-below q i (u .ruled) (omega arith) in
     ap (λ (x : Record). x .count)
@@ -111,13 +117,17 @@ current-fits p q row u e =
 -- the first place in use is the row's first in turn
 pub place-first : (q : Queue) → Ruled q → place q 0 ≡ q .first
 unfolding place
-place-first q r = by (λ n. n ≡ q .first) _ _ _ (λ e. omega arith) (λ e. absurd (less-not (q .first) (q .places) (r .turn) e))
+place-first q r =
+    by (λ n. n ≡ q .first) _ _ _ (λ e. omega arith) (λ e. absurd (less-not (q .first) (q .places) (r .turn) e))
 
-first-turn : (p n : ℕ) (q : Queue) (row : List ℕ) → Rowed q row → (q .first ≡ p → ⊥) → (s : Shut p n q row) → 0 < s .turn
-first-turn p n q row u h s = positive (s .turn) (λ e. h (sym (place-first q (u .ruled)) ∙ ap (place q) (sym e) ∙ sym (s .is)))
+first-turn : (p n : ℕ) (q : Queue) (row : List ℕ) → Rowed q row → (q .first ≡ p → ⊥) → (s : Shut p n q row)
+    → 0 < s .turn
+first-turn p n q row u h s =
+    positive (s .turn) (λ e. h (sym (place-first q (u .ruled)) ∙ ap (place q) (sym e) ∙ sym (s .is)))
 
 module _ (p n : ℕ) (q : Queue) (row : List ℕ) (u : Rowed q row) where
-  pub shut-now : (status : ℕ) (x area : List ℕ) → Waiting p 0 q → Shut p n (confirmed q) (confirm q status n x row area .row)
+  pub shut-now : (status : ℕ) (x area : List ℕ) → Waiting p 0 q
+      → Shut p n (confirmed q) (confirm q status n x row area .row)
   unfolding confirmed confirm closed
   shut-now status x area w =
       let b = place-below q (q .confirmed) (u .ruled) (omega (arith, u .ruled .used)) in
@@ -135,7 +145,8 @@ module _ (p n : ℕ) (q : Queue) (row : List ℕ) (u : Rowed q row) where
       fits : current q ≡ p → SIZE * p + SIZE ≤ length row
       fits e = current-fits p q row u e
 
-  pub shut-confirmed : (status m : ℕ) (x area : List ℕ) → 0 < q .unconfirmed → Shut p n q row → Shut p n (confirmed q) (confirm q status m x row area .row)
+  pub shut-confirmed : (status m : ℕ) (x area : List ℕ) → 0 < q .unconfirmed → Shut p n q row
+      → Shut p n (confirmed q) (confirm q status m x row area .row)
   unfolding confirmed confirm current
   shut-confirmed status m x area h s =
       record {
@@ -145,7 +156,8 @@ module _ (p n : ℕ) (q : Queue) (row : List ℕ) (u : Rowed q row) where
         count = unharmed p n (q .confirmed) q row _ u (omega (arith, u .ruled .used)) s (λ e. omega (arith, s .within));
       }
 
-  pub shut-grown : (r : Record) → q .confirmed + q .unconfirmed < q .places → Shut p n q row → Shut p n (grown q) (put row (place q (q .confirmed + q .unconfirmed)) r)
+  pub shut-grown : (r : Record) → q .confirmed + q .unconfirmed < q .places → Shut p n q row
+      → Shut p n (grown q) (put row (place q (q .confirmed + q .unconfirmed)) r)
   unfolding grown
   shut-grown r h s =
       record {
@@ -163,7 +175,9 @@ module _ (p n : ℕ) (q : Queue) (row : List ℕ) (u : Rowed q row) where
       let e : s .turn - 1 + 1 ≡ s .turn = omega arith in
       record {
         turn = s .turn - 1;
-        is = s .is ∙ ap (place q) (sym e) ∙ sym (place-freed q (s .turn - 1) (u .ruled) (omega (arith, u .ruled .used, s .within)));
+        is =
+            s .is ∙ ap (place q) (sym e) ∙ sym
+            (place-freed q (s .turn - 1) (u .ruled) (omega (arith, u .ruled .used, s .within)));
         within = omega (arith, s .within);
         count = s .count;
       }
@@ -171,11 +185,13 @@ module _ (p n : ℕ) (q : Queue) (row : List ℕ) (u : Rowed q row) where
 -- ---- the first place in use
 pub first-waiting : (p d : ℕ) (q : Queue) → Ruled q → 0 < q .confirmed → Waiting p d q → q .first ≡ p → ⊥
 first-waiting p d q r h w e =
-    let f = place-apart q 0 (q .confirmed + d) (omega (arith, r .used)) (omega (arith, r .used, w .within)) (place-first q r ∙ e ∙ w .is) in
+    let f = place-apart q 0 (q .confirmed + d) (omega (arith, r .used)) (omega (arith, r .used, w .within))
+    (place-first q r ∙ e ∙ w .is) in
     omega arith
 
 -- ---- queue and row stay in order
-pub rowed-confirmed : (q : Queue) (row : List ℕ) (status m : ℕ) (x area : List ℕ) → Rowed q row → 0 < q .unconfirmed → Rowed (confirmed q) (confirm q status m x row area .row)
+pub rowed-confirmed : (q : Queue) (row : List ℕ) (status m : ℕ) (x area : List ℕ) → Rowed q row → 0 < q .unconfirmed
+    → Rowed (confirmed q) (confirm q status m x row area .row)
 unfolding confirm confirmed
 rowed-confirmed q row status m x area u h =
     record {
@@ -183,7 +199,8 @@ rowed-confirmed q row status m x area u h =
       long = length-put row (current q) _ (current-fits (current q) q row u refl) ∙ u .long;
     }
 
-pub rowed-grown : (q : Queue) (row : List ℕ) (r : Record) → Rowed q row → q .confirmed + q .unconfirmed < q .places → Rowed (grown q) (put row (place q (q .confirmed + q .unconfirmed)) r)
+pub rowed-grown : (q : Queue) (row : List ℕ) (r : Record) → Rowed q row → q .confirmed + q .unconfirmed < q .places
+    → Rowed (grown q) (put row (place q (q .confirmed + q .unconfirmed)) r)
 unfolding grown
 rowed-grown q row r u h =
     let b = place-below q (q .confirmed + q .unconfirmed) (u .ruled) (u .ruled .used) in

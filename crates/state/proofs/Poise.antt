@@ -53,14 +53,16 @@ pub record Loaded (x : Phase) (q : Queue) (row : List ℕ) : Type 0 where
   pub fits : unlikeIn x (at row (current q) .service) ≡ false
 
 -- a phase that is not at odds with what is being sent, nor with its sendings so far
-pub record Apt (limit sendings own : ℕ) (masters : List ℕ) (h l : Queue) (u v : List ℕ) (x : Phase) (y : Priority) : Type 0 where
+pub record Apt (limit sendings own : ℕ) (masters : List ℕ) (h l : Queue) (u v : List ℕ) (x : Phase) (y : Priority) :
+    Type 0 where
   pub flying : flight x ≡ true → Loaded x (queueBy y h l) (rowBy y u v)
   pub counted : flight x ≡ true → (0 < sendings) × (sendings ≤ limit + 1)
   pub check : checking x ≡ true → nextOf masters own ≡ own → ⊥
   pub self : selfing x ≡ true → nextOf masters own ≡ own
 
 -- settings and TS as started, addresses in range, TS among the masters, both queues in order
-pub record Firm (t : Settings) (ts : ℕ) (set : Settings) (own ps stranger : ℕ) (masters : List ℕ) (h l : Queue) (u v : Rows) : Type 0 where
+pub record Firm (t : Settings) (ts : ℕ) (set : Settings) (own ps stranger : ℕ) (masters : List ℕ) (h l : Queue)
+    (u v : Rows) : Type 0 where
   pub settings : set ≡ t
   pub station : own ≡ ts
   pub previous : ps ≤ 126
@@ -70,23 +72,34 @@ pub record Firm (t : Settings) (ts : ℕ) (set : Settings) (own ps stranger : �
   pub low : Filed own l v
 
 abbrev pub FirmAt : Settings → ℕ → Site → Type 0
-FirmAt t ts s = Firm t ts (s .core .settings) (s .core .ts .0) (s .core .ps .0) (s .core .stranger .0) (s .masters) (s .core .high) (s .core .low) (s .high) (s .low)
+FirmAt t ts s =
+    Firm t ts (s .core .settings) (s .core .ts .0) (s .core .ps .0) (s .core .stranger .0) (s .masters)
+    (s .core .high) (s .core .low) (s .high) (s .low)
 
 abbrev pub AptAt : Site → Type 0
-AptAt s = Apt (s .core .settings .retries .0) (s .core .doing .sendings) (s .core .ts .0) (s .masters) (s .core .high) (s .core .low) (s .high .row) (s .low .row) (s .core .doing .phase) (s .core .doing .served)
+AptAt s =
+    Apt (s .core .settings .retries .0) (s .core .doing .sendings) (s .core .ts .0) (s .masters) (s .core .high)
+    (s .core .low) (s .high .row) (s .low .row) (s .core .doing .phase) (s .core .doing .served)
 
 -- ---- phases
 module _ (limit own : ℕ) (masters : List ℕ) (h l : Queue) (u v : List ℕ) where
-  unflown : (n : ℕ) (x : Phase) (y : Priority) → flight x ≡ false → (checking x ≡ true → nextOf masters own ≡ own → ⊥) → (selfing x ≡ true → nextOf masters own ≡ own) → Apt limit n own masters h l u v x y
+  unflown : (n : ℕ) (x : Phase) (y : Priority) → flight x ≡ false → (checking x ≡ true → nextOf masters own ≡ own → ⊥)
+      → (selfing x ≡ true → nextOf masters own ≡ own) → Apt limit n own masters h l u v x y
   unflown n x y e c s =
-      record { flying = λ z. absurd (true≢false (sym z ∙ e)); counted = λ z. absurd (true≢false (sym z ∙ e)); check = c; self = s }
+      record {
+        flying = λ z. absurd (true≢false (sym z ∙ e));
+        counted = λ z. absurd (true≢false (sym z ∙ e));
+        check = c;
+        self = s;
+      }
 
   pub apt-idle : (n : ℕ) (y : Priority) → Apt limit n own masters h l u v Idle y
   unfolding flight checking selfing
   apt-idle n y = unflown n Idle y refl (λ e. absurd (true≢false (sym e))) (λ e. absurd (true≢false (sym e)))
 
   -- sent for the first time
-  apt-loaded : (x : Phase) (y : Priority) → checking x ≡ false → selfing x ≡ false → Loaded x (queueBy y h l) (rowBy y u v) → Apt limit 1 own masters h l u v x y
+  apt-loaded : (x : Phase) (y : Priority) → checking x ≡ false → selfing x ≡ false
+      → Loaded x (queueBy y h l) (rowBy y u v) → Apt limit 1 own masters h l u v x y
   apt-loaded x y c s z =
       record {
         flying = λ e. z;
@@ -95,14 +108,18 @@ module _ (limit own : ℕ) (masters : List ℕ) (h l : Queue) (u v : List ℕ) w
         self = λ e. absurd (true≢false (sym e ∙ s));
       }
 
-  apt-sending : (y : Priority) (n : ℕ) → 0 < queueBy y h l .unconfirmed → n ≡ at (rowBy y u v) (current (queueBy y h l)) .service → Apt limit (sending y n .sendings) own masters h l u v (sending y n .phase) (sending y n .served)
+  apt-sending : (y : Priority) (n : ℕ) → 0 < queueBy y h l .unconfirmed
+      → n ≡ at (rowBy y u v) (current (queueBy y h l)) .service
+      → Apt limit (sending y n .sendings) own masters h l u v (sending y n .phase) (sending y n .served)
   unfolding sending checking selfing unlikeIn
   apt-sending y n z e =
       by (λ (g : Doing). Apt limit (g .sendings) own masters h l u v (g .phase) (g .served)) _ _ _
       (λ i. apt-loaded Sdn y refl refl (record { some = z; fits = pick-true _ _ (rw e at i) }))
       (λ i. apt-loaded Awaited y refl refl (record { some = z; fits = rw e at i }))
 
-  apt-passing : (c : Core) → c .ts .0 ≡ own → Apt limit (passingOn (nextOf masters own) c .sendings) own masters h l u v (passingOn (nextOf masters own) c .phase) (passingOn (nextOf masters own) c .served)
+  apt-passing : (c : Core) → c .ts .0 ≡ own
+      → Apt limit (passingOn (nextOf masters own) c .sendings) own masters h l u v
+      (passingOn (nextOf masters own) c .phase) (passingOn (nextOf masters own) c .served)
   unfolding passingOn flight checking selfing
   apt-passing c e =
       by (λ (g : Doing). Apt limit (g .sendings) own masters h l u v (g .phase) (g .served)) _ _ _
@@ -113,28 +130,38 @@ module _ (limit own : ℕ) (masters : List ℕ) (h l : Queue) (u v : List ℕ) w
 apart-from : (q : Queue) → 0 < q .unconfirmed → q .confirmed + q .unconfirmed ≡ q .confirmed → ⊥
 apart-from q s e = omega arith
 
-loaded-grown : (x : Phase) (q : Queue) (row : List ℕ) (r : Record) → Ruled q → length row ≡ SIZE * q .places → q .confirmed + q .unconfirmed < q .places → Loaded x q row → Loaded x (grown q) (put row (place q (q .confirmed + q .unconfirmed)) r)
+loaded-grown : (x : Phase) (q : Queue) (row : List ℕ) (r : Record) → Ruled q → length row ≡ SIZE * q .places
+    → q .confirmed + q .unconfirmed < q .places → Loaded x q row
+    → Loaded x (grown q) (put row (place q (q .confirmed + q .unconfirmed)) r)
 unfolding grown current
 loaded-grown x q row r u l h z =
     let b = place-below q (q .confirmed + q .unconfirmed) u (u .used) in
     record {
       some = omega arith;
-      fits = rw (place-grown q (q .confirmed), at-other row (place q (q .confirmed + q .unconfirmed)) (place q (q .confirmed)) r (omega arith) (λ e. apart-from q (z .some) (place-apart q _ _ h (omega (arith, u .used, z .some)) e))) (z .fits);
+      fits =
+          rw (
+            place-grown q (q .confirmed),
+            at-other row (place q (q .confirmed + q .unconfirmed)) (place q (q .confirmed)) r (omega arith)
+                (λ e. apart-from q (z .some) (place-apart q _ _ h (omega (arith, u .used, z .some)) e)),
+          ) (z .fits);
     }
 
-loaded-freed : (x : Phase) (q : Queue) (row : List ℕ) → Ruled q → 0 < q .confirmed → Loaded x q row → Loaded x (freed q) row
+loaded-freed : (x : Phase) (q : Queue) (row : List ℕ) → Ruled q → 0 < q .confirmed → Loaded x q row
+    → Loaded x (freed q) row
 unfolding current freed
 loaded-freed x q row u h z =
     let e : q .confirmed - 1 + 1 ≡ q .confirmed = omega arith in
     record { some = z .some; fits = rw (place-freed q (q .confirmed - 1) u (omega (arith, u .used)), e) (z .fits) }
 
 module _ {limit n own : ℕ} {masters : List ℕ} {h l h′ : Queue} {u v u′ : List ℕ} {x : Phase} where
-  apt-high : (y : Priority) → (Loaded x h u → Loaded x h′ u′) → Apt limit n own masters h l u v x y → Apt limit n own masters h′ l u′ v x y
+  apt-high : (y : Priority) → (Loaded x h u → Loaded x h′ u′) → Apt limit n own masters h l u v x y
+      → Apt limit n own masters h′ l u′ v x y
   unfolding queueBy rowBy
   apt-high High f a = record { flying = λ e. f (a .flying e); counted = a .counted; check = a .check; self = a .self }
   apt-high Low f a = record { flying = a .flying; counted = a .counted; check = a .check; self = a .self }
 
-  apt-low : (y : Priority) → (Loaded x h u → Loaded x h′ u′) → Apt limit n own masters l h v u x y → Apt limit n own masters l h′ v u′ x y
+  apt-low : (y : Priority) → (Loaded x h u → Loaded x h′ u′) → Apt limit n own masters l h v u x y
+      → Apt limit n own masters l h′ v u′ x y
   unfolding queueBy rowBy
   apt-low High f a = record { flying = a .flying; counted = a .counted; check = a .check; self = a .self }
   apt-low Low f a = record { flying = λ e. f (a .flying e); counted = a .counted; check = a .check; self = a .self }
@@ -174,7 +201,8 @@ closing-flight lost = refl
 closing-flight gone = refl
 
 -- the queue being served has a request
-pub served-some : (y : Priority) (s : Site) → s .core .doing .served ≡ y → flight (s .core .doing .phase) ≡ true → AptAt s → 0 < queueBy y (s .core .high) (s .core .low) .unconfirmed
+pub served-some : (y : Priority) (s : Site) → s .core .doing .served ≡ y → flight (s .core .doing .phase) ≡ true
+    → AptAt s → 0 < queueBy y (s .core .high) (s .core .low) .unconfirmed
 served-some y s e h a = rw e at (a .flying h .some)
 
 pub previous-small : (l : List ℕ) (own ts : ℕ) → ts ≤ 126 → own ≡ ts → previousOf l own ≤ 126
@@ -182,13 +210,34 @@ previous-small l own ts small e = omega (arith, small, previous-is l own (omega 
 
 module _ (t : Settings) (ts : ℕ) (small : ts ≤ 126) where
   -- ---- the parts of a site that change
-  refirm : {set : Settings} {own ps stranger : ℕ} {masters : List ℕ} {h l h′ l′ : Queue} {u v u′ v′ : Rows} → Firm t ts set own ps stranger masters h l u v → Filed own h′ u′ → Filed own l′ v′ → Firm t ts set own ps stranger masters h′ l′ u′ v′
+  refirm : {set : Settings} {own ps stranger : ℕ} {masters : List ℕ} {h l h′ l′ : Queue} {u v u′ v′ : Rows}
+      → Firm t ts set own ps stranger masters h l u v → Filed own h′ u′ → Filed own l′ v′
+      → Firm t ts set own ps stranger masters h′ l′ u′ v′
   refirm f a b =
-      record { settings = f .settings; station = f .station; previous = f .previous; first = f .first; among = f .among; high = a; low = b }
+      record {
+        settings = f .settings;
+        station = f .station;
+        previous = f .previous;
+        first = f .first;
+        among = f .among;
+        high = a;
+        low = b;
+      }
 
-  readdress : {set : Settings} {own ps stranger ps′ stranger′ : ℕ} {masters masters′ : List ℕ} {h l : Queue} {u v : Rows} → Firm t ts set own ps stranger masters h l u v → ps′ ≤ 126 → stranger′ ≤ 127 → member masters′ own ≡ true → Firm t ts set own ps′ stranger′ masters′ h l u v
+  readdress : {set : Settings} {own ps stranger ps′ stranger′ : ℕ} {masters masters′ : List ℕ} {h l : Queue} {u v : Rows}
+      → Firm t ts set own ps stranger masters h l u v → ps′ ≤ 126 → stranger′ ≤ 127 → member masters′ own ≡ true
+      → Firm t ts set own ps′ stranger′ masters′ h l u v
   readdress f a b c =
-      record { settings = f .settings; station = f .station; previous = a; first = b; among = c; high = f .high; low = f .low }
+      record {
+        settings = f .settings;
+        station = f .station;
+        previous = a;
+        first = b;
+        among = c;
+        high = f .high;
+        low = f
+            .low;
+      }
 
   ps-small : (n : ℕ) (l : List ℕ) (c : Core) → c .ts .0 ≡ ts → c .ps .0 ≤ 126 → psWithout n l c ≤ 126
   unfolding psWithout
@@ -198,7 +247,9 @@ module _ (t : Settings) (ts : ℕ) (small : ts ≤ 126) where
   unfolding ns checking
   other-next s e a = a .check (ap checking e)
 
-  close-firm : (y : Priority) (o : Outcome) (x : List ℕ) (s : Site) → 0 < queueBy y (s .core .high) (s .core .low) .unconfirmed → named (statusOf o) ≡ true → length x ≤ AREA → FirmAt t ts s → FirmAt t ts (closeOf y o x s .site)
+  close-firm : (y : Priority) (o : Outcome) (x : List ℕ) (s : Site)
+      → 0 < queueBy y (s .core .high) (s .core .low) .unconfirmed → named (statusOf o) ≡ true → length x ≤ AREA
+      → FirmAt t ts s → FirmAt t ts (closeOf y o x s .site)
   unfolding closeOf done withRows withMarks withCore withQueue queueOf rowsOf confirm queueBy
   close-firm High o x s h n l f = refirm f (filed-confirmed _ _ (s .high) (f .high) _ _ x h n l) (f .low)
   close-firm Low o x s h n l f = refirm f (f .high) (filed-confirmed _ _ (s .low) (f .low) _ _ x h n l)
@@ -209,12 +260,22 @@ module _ (t : Settings) (ts : ℕ) (small : ts ≤ 126) where
   poised-moved (lets-go s h) g = record { firm = g .firm; apt = any }
   poised-moved (rests s) g = record { firm = g .firm; apt = apt-idle _ _ _ _ _ _ _ _ _ }
   poised-moved (notes a s h i j k) g =
-      record { firm = readdress (g .firm) (g .firm .previous) (let l = h any in omega arith) (g .firm .among); apt = g .apt }
+      record {
+        firm = readdress (g .firm) (g .firm .previous) (let l = h any in omega arith) (g .firm .among);
+        apt = g
+            .apt;
+      }
   poised-moved (admits a s h i j) g =
-      record { firm = readdress (g .firm) (h any) (g .firm .first) (member-enter-other _ a _ (λ e. i (sym e)) ∙ g .firm .among); apt = any }
+      record {
+        firm = readdress (g .firm) (h any) (g .firm .first)
+            (member-enter-other _ a _ (λ e. i (sym e)) ∙ g .firm .among);
+        apt = any;
+      }
   poised-moved (drops s e h) g =
       record {
-        firm = readdress (g .firm) (ps-small _ _ (s .core) (g .firm .station) (g .firm .previous)) (g .firm .first) (member-remove-other _ _ _ (λ i. other-next s (e any) (g .apt) (sym i)) ∙ g .firm .among);
+        firm =
+            readdress (g .firm) (ps-small _ _ (s .core) (g .firm .station) (g .firm .previous)) (g .firm .first)
+            (member-remove-other _ _ _ (λ i. other-next s (e any) (g .apt) (sym i)) ∙ g .firm .among);
         apt = any;
       }
   poised-moved (spares s h) g = record { firm = g .firm; apt = any }
@@ -225,30 +286,42 @@ module _ (t : Settings) (ts : ℕ) (small : ts ≤ 126) where
       }
 
   -- ---- acts
-  apt-again : (s : Site) → AptAt s → s .core .doing .sendings + 1 ≤ s .core .settings .retries .0 + 1 → AptAt (sentAgain s)
+  apt-again : (s : Site) → AptAt s → s .core .doing .sendings + 1 ≤ s .core .settings .retries .0 + 1
+      → AptAt (sentAgain s)
   unfolding once withCore withDoing
   apt-again s a h =
       record { flying = a .flying; counted = λ e. (omega arith, h); check = a .check; self = a .self }
 
-  poised-serves : (starts : Bool) (clock : ℕ) (y : Priority) (s : Site) → choice starts (s .core) clock ≡ Serve y → FirmAt t ts s → Poised t ts calm (sent y s)
+  poised-serves : (starts : Bool) (clock : ℕ) (y : Priority) (s : Site) → choice starts (s .core) clock ≡ Serve y
+      → FirmAt t ts s → Poised t ts calm (sent y s)
   unfolding AptIn sendCore withCore withDoing queueOf rowsOf recordIn queueBy rowBy
-  poised-serves starts clock High s e f = record { firm = f; apt = apt-sending _ _ _ _ _ _ _ High _ (saw-high starts _ clock e) refl }
-  poised-serves starts clock Low s e f = record { firm = f; apt = apt-sending _ _ _ _ _ _ _ Low _ (saw-low starts _ clock e .0) refl }
+  poised-serves starts clock High s e f =
+      record { firm = f; apt = apt-sending _ _ _ _ _ _ _ High _ (saw-high starts _ clock e) refl }
+  poised-serves starts clock Low s e f =
+      record { firm = f; apt = apt-sending _ _ _ _ _ _ _ Low _ (saw-low starts _ clock e .0) refl }
 
-  poised-takes : (y : Priority) (r : Record) (x : List ℕ) (s : Site) → Accepted (s .core .ts .0) (queueOf y (s .core)) r (length x) → taking y r x s ≡ submitted (s .core .ts .0) (queueOf y (s .core)) r x (rowsOf y s .row) (rowsOf y s .area) → FirmAt t ts s → AptAt s → Poised t ts calm (grownBy y r x s)
+  poised-takes : (y : Priority) (r : Record) (x : List ℕ) (s : Site)
+      → Accepted (s .core .ts .0) (queueOf y (s .core)) r (length x)
+      → taking y r x s ≡ submitted (s .core .ts .0) (queueOf y (s .core)) r x (rowsOf y s .row) (rowsOf y s .area)
+      → FirmAt t ts s → AptAt s → Poised t ts calm (grownBy y r x s)
   unfolding AptIn withRows withCore withQueue queueOf rowsOf take
   poised-takes High r x s h e f a =
       record {
         firm = refirm f (filed-taken _ _ (s .high) r x (taking High r x s) e (f .high)) (f .low);
-        apt = apt-high _ (loaded-grown _ (s .core .high) (s .high .row) _ (f .high .ruled) (f .high .lent .places) (h .room)) a;
+        apt =
+            apt-high _
+            (loaded-grown _ (s .core .high) (s .high .row) _ (f .high .ruled) (f .high .lent .places) (h .room)) a;
       }
   poised-takes Low r x s h e f a =
       record {
         firm = refirm f (f .high) (filed-taken _ _ (s .low) r x (taking Low r x s) e (f .low));
-        apt = apt-low _ (loaded-grown _ (s .core .low) (s .low .row) _ (f .low .ruled) (f .low .lent .places) (h .room)) a;
+        apt =
+            apt-low _ (loaded-grown _ (s .core .low) (s .low .row) _ (f .low .ruled) (f .low .lent .places) (h .room))
+            a;
       }
 
-  poised-hands : (y : Priority) (s : Site) → 0 < queueOf y (s .core) .confirmed → FirmAt t ts s → AptAt s → Poised t ts calm (freedOf y s)
+  poised-hands : (y : Priority) (s : Site) → 0 < queueOf y (s .core) .confirmed → FirmAt t ts s → AptAt s
+      → Poised t ts calm (freedOf y s)
   unfolding AptIn withCore withQueue queueOf
   poised-hands High s h f a =
       record {
@@ -262,7 +335,8 @@ module _ (t : Settings) (ts : ℕ) (small : ts ≤ 126) where
       }
 
   pub poised-acted : {p q : Point} {s s′ : Site} {e : Event} → Act Any p s e q s′ → Poised t ts p s → Poised t ts q s′
-  unfolding AptIn passCore ns beginning withCore withRows withQueue queueOf rowsOf confirm withDoing withHold withStranger once flight
+  unfolding AptIn passCore ns beginning withCore withRows withQueue queueOf rowsOf confirm withDoing withHold
+      withStranger once flight
   poised-acted (opens clock s) g =
       record { firm = readdress (g .firm) (g .firm .previous) (omega arith) (g .firm .among); apt = any }
   poised-acted (serves starts clock y s e) g = poised-serves starts clock y s e (g .firm)
@@ -273,7 +347,11 @@ module _ (t : Settings) (ts : ℕ) (small : ts ≤ 126) where
       record { firm = g .firm; apt = unflown _ _ _ _ _ _ _ _ _ _ (ap flight (e any)) (g .apt .check) (g .apt .self) }
   poised-acted (repeats y s i e h) g = record { firm = g .firm; apt = apt-again s (g .apt) (omega arith) }
   poised-acted (closes y p o x s i e c) g =
-      record { firm = close-firm y o x s (served-some y s i (ap flight (e any) ∙ closing-flight (c any)) (g .apt)) (closing-named (c any)) (closing-short (c any)) (g .firm); apt = any }
+      record {
+        firm = close-firm y o x s (served-some y s i (ap flight (e any) ∙ closing-flight (c any)) (g .apt))
+            (closing-named (c any)) (closing-short (c any)) (g .firm);
+        apt = any;
+      }
   poised-acted (takes y r x s h e) g = poised-takes y r x s h e (g .firm) (g .apt)
   poised-acted (hands y s h) g = poised-hands y s h (g .firm) (g .apt)
   poised-acted (replies o s) g = g
@@ -281,9 +359,17 @@ module _ (t : Settings) (ts : ℕ) (small : ts ≤ 126) where
   poised-acted (restarts s) g = record { firm = g .firm; apt = any }
   poised-acted (breaks s h) g = record { firm = g .firm; apt = any }
   poised-acted (clears-high a b s h) g =
-      record { firm = refirm (g .firm) (filed-confirmed _ _ (s .high) (g .firm .high) DS a [] h named-DS (omega arith)) (g .firm .low); apt = any }
+      record {
+        firm = refirm (g .firm) (filed-confirmed _ _ (s .high) (g .firm .high) DS a [] h named-DS (omega arith))
+            (g .firm .low);
+        apt = any;
+      }
   poised-acted (clears-low a b s h) g =
-      record { firm = refirm (g .firm) (g .firm .high) (filed-confirmed _ _ (s .low) (g .firm .low) DS b [] h named-DS (omega arith)); apt = any }
+      record {
+        firm = refirm (g .firm) (g .firm .high)
+            (filed-confirmed _ _ (s .low) (g .firm .low) DS b [] h named-DS (omega arith));
+        apt = any;
+      }
 
   abbrev pub poise : Ground
   poise = record { Given = Poised t ts; moved = poised-moved; acted = poised-acted }

@@ -28,27 +28,19 @@ use Rattle.state.proofs.Acts.{Point, calm, free, choosing, passing, hal
 use Rattle.state.proofs.Acts.{notes, admits, drops, spares, renews, Act, opens, serves, stops, quits, passes}
 use Rattle.state.proofs.Acts.{repasses, repeats, closes, takes, hands, replies, shows, restarts, breaks}
 use Rattle.state.proofs.Acts.{clears-high, clears-low}
-use Rattle.state.proofs.Keeping.{ungrounded, Account, met}
+use Rattle.state.proofs.Keeping.{ungrounded, Account, ofSendings, met}
 use Rattle.state.proofs.Standing.{sending-served, passing-flight}
 use Rattle.state.proofs.Start.{begun-queues, begun-marks}
 
--- ---- what is asked of each event
-unfoldable Goes : What → Line → Type 0
-Goes (aRequest High n) h = Any
-Goes (aRequest Low n) h = h .low ≡ false → h .waiting ≡ 0
-Goes aToken h = Any
-Goes aReply h = Any
+-- ---- what is asked of each sending: of a low request's, that no high one waits, unless it was sent before
+unfoldable Goes : What → List ℕ → ℕ → Line → Type 0
+Goes (aRequest High n) o k h = Any
+Goes (aRequest Low n) o k h = h .low ≡ false → h .waiting ≡ 0
+Goes aToken o k h = Any
+Goes aReply o k h = Any
 
-unfoldable Meets : Event → Line → Type 0
-Meets (accepted p n) h = Any
-Meets begins h = Any
-Meets ends h = Any
-Meets (sends x o k) h = Goes x h
-Meets (confirmed p n status k) h = Any
-Meets (collected p n r) h = Any
-Meets (indicated f d) h = Any
-Meets resets h = Any
-Meets (refused n) h = Any
+abbrev Meets : Event → Line → Type 0
+Meets e h = ofSendings Goes e h
 
 -- ---- the station's count of waiting high requests is the history's, and a low request that is being sent is known to it
 unfoldable isLow : Priority → Bool
@@ -87,19 +79,27 @@ placed-moved (drops s e i) h p = record { count = p .count; knows = any }
 placed-moved (spares s e) h p = record { count = p .count; knows = any }
 placed-moved (renews a b masters s i j k) h p = record { count = p .count; knows = unflown refl }
 
-placed-acted : {p q : Point} {s s′ : Site} {e : Event} → Act Any p s e q s′ → (h : Line) → Placed p s h → Meets e h × Placed q s′ (lineAfter e h)
-unfolding KnowsIn isLow Meets Goes lineAfter sentBy joined served sendCore passCore beginning closeOf done once withRows withMarks withCore withQueue withDoing withHold withStranger queueOf rowsOf confirm Q.confirmed take grown freed A.replies flight
+placed-acted : {p q : Point} {s s′ : Site} {e : Event} → Act Any p s e q s′ → (h : Line) → Placed p s h
+    → Meets e h × Placed q s′ (lineAfter e h)
+unfolding KnowsIn isLow ofSendings Goes lineAfter sentBy joined served sendCore passCore beginning closeOf done once
+    withRows withMarks withCore withQueue withDoing withHold withStranger queueOf rowsOf confirm Q.confirmed take grown
+    freed A.replies flight
 placed-acted (opens clock s) h p = (any, record { count = p .count; knows = any })
-placed-acted (serves starts clock High s e) h p = (any, record { count = p .count; knows = unlow (sending-served High _) })
-placed-acted (serves starts clock Low s e) h p =
-    ((λ i. sym (p .count) ∙ saw-low starts _ clock e .1), record { count = p .count; knows = record { low = λ i j. refl } })
+placed-acted (serves starts clock High s e) h p =
+    (any, record { count = p .count; knows = unlow (sending-served High _) })
+placed-acted (serves starts clock Low s e) h p = (
+  (λ i. sym (p .count) ∙ saw-low starts _ clock e .1),
+  record { count = p .count; knows = record { low = λ i j. refl } },
+)
 placed-acted (stops starts clock s e) h p = (any, record { count = p .count; knows = any })
 placed-acted (quits s) h p = (any, record { count = p .count; knows = any })
 placed-acted (passes s) h p = (any, record { count = p .count; knows = unflown (passing-flight _ _) })
 placed-acted (repasses s e i) h p = (any, record { count = p .count; knows = record { low = p .knows .low } })
 placed-acted (repeats High s i e j) h p = (any, record { count = p .count; knows = record { low = p .knows .low } })
-placed-acted (repeats Low s i e j) h p =
-    ((λ k. absurd (true≢false (sym (p .knows .low (ap flight (e any)) (ap isLow i)) ∙ k))), record { count = p .count; knows = record { low = λ k l. refl } })
+placed-acted (repeats Low s i e j) h p = (
+  (λ k. absurd (true≢false (sym (p .knows .low (ap flight (e any)) (ap isLow i)) ∙ k))),
+  record { count = p .count; knows = record { low = λ k l. refl } },
+)
 placed-acted (closes High x o d s i e c) h p = (any, record { count = ap (λ (n : ℕ). n - 1) (p .count); knows = any })
 placed-acted (closes Low x o d s i e c) h p = (any, record { count = p .count; knows = any })
 placed-acted (takes High r x s i e) h p =
@@ -114,8 +114,9 @@ placed-acted (breaks s i) h p = (any, record { count = p .count; knows = any })
 placed-acted (clears-high a b s i) h p = (any, record { count = ap (λ (n : ℕ). n - 1) (p .count); knows = any })
 placed-acted (clears-low a b s i) h p = (any, record { count = p .count; knows = any })
 
-placed-refused : (n : ℕ) (s : Site) (h : Line) → Placed calm s h → Meets (refused n) h × Placed calm s (lineAfter (refused n) h)
-unfolding Meets lineAfter
+placed-refused : (n : ℕ) (s : Site) (h : Line) → Placed calm s h
+    → Meets (refused n) h × Placed calm s (lineAfter (refused n) h)
+unfolding ofSendings lineAfter
 placed-refused n s h p = (any, p)
 
 last-none : (h : Line) → lineLast [] h ≡ h
@@ -148,13 +149,22 @@ empty-line n = refl
 placed-begun : (w : World) → Begun w → Placed calm (w .site) nobody
 unfolding KnowsIn flight
 placed-begun w b =
-    record { count = ap (λ (q : Queue). q .unconfirmed) (begun-queues w b .0) ∙ empty-line _; knows = unflown (ap flight (begun-marks w b .1)) }
+    record {
+      count = ap (λ (q : Queue). q .unconfirmed) (begun-queues w b .0) ∙ empty-line _;
+      knows = unflown
+          (ap flight (begun-marks w b .1));
+    }
 
-low-goes : (n : ℕ) (o : List ℕ) (k : ℕ) (h : Line) → Meets (sends (aRequest Low n) o k) h → h .low ≡ false → h .waiting ≡ 0
-unfolding Meets Goes
+low-goes : (n : ℕ) (o : List ℕ) (k : ℕ) (h : Line) → Meets (sends (aRequest Low n) o k) h → h .low ≡ false
+    → h .waiting ≡ 0
+unfolding ofSendings Goes
 low-goes n o k h i = i
 
 -- the theorem: after a start and any calls, where a low request is sent and none was sent before it that is not confirmed,
 -- every high request that was accepted is confirmed
-pub high-before-low : (w : World) → Begun w → (l : List Call) (before after : List Event) (n : ℕ) (o : List ℕ) (wait : ℕ) → run l w .events ≡ before ++ (sends (aRequest Low n) o wait ∷ after) → lineLast before nobody .low ≡ false → lineLast before nobody .waiting ≡ 0
-high-before-low w b l before after n o wait e = low-goes n o wait _ (met precedence l w nobody any (placed-begun w b) before after _ e)
+pub high-before-low : (w : World) → Begun w
+    → (l : List Call) (before after : List Event) (n : ℕ) (o : List ℕ) (wait : ℕ)
+    → run l w .events ≡ before ++ (sends (aRequest Low n) o wait ∷ after) → lineLast before nobody .low ≡ false
+    → lineLast before nobody .waiting ≡ 0
+high-before-low w b l before after n o wait e =
+    low-goes n o wait _ (met precedence l w nobody any (placed-begun w b) before after _ e)

@@ -49,7 +49,8 @@ unrefused (resets ∷ a) e = unrefused a e
 unrefused (refused n ∷ a) e = absurd (true≢false e)
 
 -- ---- no act refuses
-tame-act : {k : Type 0} {p q : Point} {s t : Site} {e : Event} → Act k p s e q t → (l : List Event) → refuses l ≡ false → refuses (e ∷ l) ≡ false
+tame-act : {k : Type 0} {p q : Point} {s t : Site} {e : Event} → Act k p s e q t → (l : List Event)
+    → refuses l ≡ false → refuses (e ∷ l) ≡ false
 unfolding refuses A.replies
 tame-act (opens clock s) l i = i
 tame-act (serves starts clock y s e) l i = i
@@ -75,7 +76,8 @@ tame (move m r) = tame r
 tame (act {l = l} a r) = tame-act a l (tame r)
 
 -- ---- and no act on the site indicates
-silent-act : {p q : Point} {s t : Site} {e : Event} → Act ⊥ p s e q t → (l : List Event) → telling l .indication ≡ None → telling (e ∷ l) .indication ≡ None
+silent-act : {p q : Point} {s t : Site} {e : Event} → Act ⊥ p s e q t → (l : List Event)
+    → telling l .indication ≡ None → telling (e ∷ l) .indication ≡ None
 unfolding telling untold adds A.replies
 silent-act (opens clock s) l i = i
 silent-act (serves starts clock y s e) l i = i
@@ -144,5 +146,6 @@ unfolding refuse telling untold adds
 unsent-by (declined n) h = refl
 unsent-by (carried c) h = absurd (true≢false (sym h ∙ told-carried c .told))
 
-pub refused-output : (c : Call) (w : World) (out : List ℕ) → refuses (call c w .events) ≡ true → laid out 0 (telling (call c w .events) .octets) ≡ out
+pub refused-output : (c : Call) (w : World) (out : List ℕ) → refuses (call c w .events) ≡ true
+    → laid out 0 (telling (call c w .events) .octets) ≡ out
 refused-output c w out h = rw (unsent-by (course c w) h) (laid-nil out 0)

@@ -34,22 +34,28 @@ use Rattle.state.proofs.Turns.{turns-accepted, turns-other-confirmed, t
 
 -- ---- one confirmation, one acceptance, of a queue or of the other
 module _ (h l : Queue) where
-  high-confirmed : (y : Priority) (s k : ℕ) → 0 < h .unconfirmed → Turns y (line (queueBy y h l)) (confirmed High (current h) s k ∷ []) (line (queueBy y (Q.confirmed h) l))
+  high-confirmed : (y : Priority) (s k : ℕ) → 0 < h .unconfirmed
+      → Turns y (line (queueBy y h l)) (confirmed High (current h) s k ∷ []) (line (queueBy y (Q.confirmed h) l))
   unfolding queueBy other
   high-confirmed High s k i = rw (line-confirmed h i) (turns-confirmed High _ _ _ _)
   high-confirmed Low s k i = turns-other-confirmed Low _ _ _ _
 
-  low-confirmed : (y : Priority) (s k : ℕ) → 0 < l .unconfirmed → Turns y (line (queueBy y h l)) (confirmed Low (current l) s k ∷ []) (line (queueBy y h (Q.confirmed l)))
+  low-confirmed : (y : Priority) (s k : ℕ) → 0 < l .unconfirmed
+      → Turns y (line (queueBy y h l)) (confirmed Low (current l) s k ∷ []) (line (queueBy y h (Q.confirmed l)))
   unfolding queueBy other
   low-confirmed High s k i = turns-other-confirmed High _ _ _ _
   low-confirmed Low s k i = rw (line-confirmed l i) (turns-confirmed Low _ _ _ _)
 
-  high-accepted : (y : Priority) → Turns y (line (queueBy y h l)) (accepted High (place h (h .confirmed + h .unconfirmed)) ∷ []) (line (queueBy y (grown h) l))
+  high-accepted : (y : Priority)
+      → Turns y (line (queueBy y h l)) (accepted High (place h (h .confirmed + h .unconfirmed)) ∷ [])
+      (line (queueBy y (grown h) l))
   unfolding queueBy other
   high-accepted High = rw (line-grown h) (turns-accepted High _ _)
   high-accepted Low = turns-other-accepted Low _ _
 
-  low-accepted : (y : Priority) → Turns y (line (queueBy y h l)) (accepted Low (place l (l .confirmed + l .unconfirmed)) ∷ []) (line (queueBy y h (grown l)))
+  low-accepted : (y : Priority)
+      → Turns y (line (queueBy y h l)) (accepted Low (place l (l .confirmed + l .unconfirmed)) ∷ [])
+      (line (queueBy y h (grown l)))
   unfolding queueBy other
   low-accepted High = turns-other-accepted High _ _
   low-accepted Low = rw (line-grown l) (turns-accepted Low _ _)
@@ -80,8 +86,10 @@ module _ (y : Priority) (t : Settings) (ts : ℕ) (small : ts ≤ 126) where
   lined-moved (renews a b masters s h i j) = refl
 
   -- ---- and so do most acts
-  lined-acted : {p q : Point} {s s′ : Site} {e : Event} → Act Any p s e q s′ → Poised t ts p s → Turns y (lineAt s) (e ∷ []) (lineAt s′)
-  unfolding mute sendCore passCore beginning closeOf done withRows withMarks withCore withQueue withDoing withHold withStranger queueOf rowsOf confirm take flight A.replies queueBy
+  lined-acted : {p q : Point} {s s′ : Site} {e : Event} → Act Any p s e q s′ → Poised t ts p s
+      → Turns y (lineAt s) (e ∷ []) (lineAt s′)
+  unfolding mute sendCore passCore beginning closeOf done withRows withMarks withCore withQueue withDoing withHold
+      withStranger queueOf rowsOf confirm take flight A.replies queueBy
   lined-acted (opens clock s) g = turns-mute y _ _ refl
   lined-acted (serves starts clock z s e) g = turns-mute y _ _ refl
   lined-acted (stops starts clock s e) g = turns-mute y _ _ refl
@@ -134,13 +142,18 @@ unfolding queueBy
 begun-line High w b = ap line (begun-queues w b .0) ∙ line-empty _
 begun-line Low w b = ap line (begun-queues w b .1) ∙ line-empty _
 
-begun-turns : (y : Priority) (w : World) → Begun w → Turns y [] [] (line (queueBy y (w .site .core .high) (w .site .core .low)))
+begun-turns : (y : Priority) (w : World) → Begun w
+    → Turns y [] [] (line (queueBy y (w .site .core .high) (w .site .core .low)))
 unfolding mute
 begun-turns y w b = rw (begun-line y w b) (turns-mute y [] [] refl)
 
 -- the places of a queue at which requests were accepted, in turn, are those whose requests were confirmed, in turn, and
 -- then those of the requests that still wait: so requests are confirmed in the order in which they were accepted
-pub first-come : (y : Priority) (w : World) → Begun w → (l : List Call) → acceptances y (run l w .events) ≡ confirmations y (run l w .events) ++ line (queueOf y (run l w .world .site .core))
+pub first-come : (y : Priority) (w : World) → Begun w → (l : List Call)
+    → acceptances y (run l w .events)
+    ≡ confirmations y (run l w .events) ++ line (queueOf y (run l w .world .site .core))
 first-come y w b l =
     let o = begun-orderly w b in
-    rw (queue-by y (run l w .world .site .core)) at (kept-run (service y (b .settings) (b .ts) (o .small)) l w [] (poised (b .settings) (b .ts) w o) (begun-turns y w b) .at .turns)
+    rw (queue-by y (run l w .world .site .core)) at
+    (kept-run (service y (b .settings) (b .ts) (o .small)) l w [] (poised (b .settings) (b .ts) w o)
+    (begun-turns y w b) .at .turns)

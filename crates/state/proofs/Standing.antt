@@ -37,7 +37,8 @@ pub record Ground (limit : ℕ) (t : Settings) (q : Queue) (row : List ℕ) : Ty
 -- ahead of it is; or a low request is
 pub data Stage (k limit d : ℕ) (g : Doing) (f : Fate) : Type 0 where
   off : flight (g .phase) ≡ false → Off k d f → Stage k limit d g f
-  ours : flight (g .phase) ≡ true → g .served ≡ High → d ≡ 0 → Fresh (g .sendings) f → g .sendings ≤ limit + 1 → f .holds + d ≤ k → Stage k limit d g f
+  ours : flight (g .phase) ≡ true → g .served ≡ High → d ≡ 0 → Fresh (g .sendings) f → g .sendings ≤ limit + 1
+      → f .holds + d ≤ k → Stage k limit d g f
   ahead : flight (g .phase) ≡ true → g .served ≡ High → 0 < d → Fresh 0 f → f .holds + d ≤ k → Stage k limit d g f
   lower : flight (g .phase) ≡ true → g .served ≡ Low → Pausing k d f → Stage k limit d g f
 
@@ -52,10 +53,11 @@ pub data Standing (p k limit : ℕ) (t : Settings) (g : Doing) (q : Queue) (row 
   gone : Gone limit f → Standing p k limit t g q row f
 
 -- between acts, where it waits with X
-pub data Between (p limit : ℕ) (X : ℕ → Fate → Type 0) (t : Settings) (q : Queue) (row : List ℕ) (f : Fate) : Type 0 where
-  waits : (d : ℕ) → Ground limit t q row → Waiting p d q → X d f → Between p limit X t q row f
-  shut : Ground limit t q row → Shut p (f .sendings) q row → Paid limit f → Between p limit X t q row f
-  gone : Gone limit f → Between p limit X t q row f
+pub data Between (p limit : ℕ) (X : ℕ → Fate → Type 0) (t : Settings) (q : Queue) (row : List ℕ) (f : Fate) : Type 0
+  where
+    waits : (d : ℕ) → Ground limit t q row → Waiting p d q → X d f → Between p limit X t q row f
+    shut : Ground limit t q row → Shut p (f .sendings) q row → Paid limit f → Between p limit X t q row f
+    gone : Gone limit f → Between p limit X t q row f
 
 -- at a hold's start
 pub record Opening (k d : ℕ) (f : Fate) : Type 0 where
@@ -99,11 +101,13 @@ held-sent : (k d : ℕ) (f : Fate) → f .holds + d ≤ k → sentOnce f .holds 
 unfolding sentOnce
 held-sent k d f h = h
 
-shut-ended : {p : ℕ} {q : Queue} {row : List ℕ} (f : Fate) → Shut p (f .sendings) q row → Shut p (holdEnded f .sendings) q row
+shut-ended : {p : ℕ} {q : Queue} {row : List ℕ} (f : Fate) → Shut p (f .sendings) q row
+    → Shut p (holdEnded f .sendings) q row
 unfolding holdEnded
 shut-ended f w = w
 
-shut-begun : {p : ℕ} {q : Queue} {row : List ℕ} (f : Fate) → Shut p (f .sendings) q row → Shut p (holdBegun f .sendings) q row
+shut-begun : {p : ℕ} {q : Queue} {row : List ℕ} (f : Fate) → Shut p (f .sendings) q row
+    → Shut p (holdBegun f .sendings) q row
 unfolding holdBegun
 shut-begun f w = w
 
@@ -118,35 +122,48 @@ sent-count f n e = e
 pausing-closed : (k d : ℕ) (f : Fate) → 0 < d → Fresh 0 f → f .holds + d ≤ k → Pausing k (d - 1) f
 pausing-closed k d f h z t = record { fresh = z; time = omega arith; slack = λ e. omega arith }
 
-pub ground-closed : {limit : ℕ} {t : Settings} {d : ℕ} (q : Queue) (status m : ℕ) (x row area : List ℕ) → Ground limit t q row → d < q .unconfirmed → Ground limit t (Q.confirmed q) (confirm q status m x row area .row)
+pub ground-closed : {limit : ℕ} {t : Settings} {d : ℕ} (q : Queue) (status m : ℕ) (x row area : List ℕ)
+    → Ground limit t q row → d < q .unconfirmed
+    → Ground limit t (Q.confirmed q) (confirm q status m x row area .row)
 ground-closed q status m x row area g h =
     record { limits = g .limits; rowed = rowed-confirmed q row status m x area (g .rowed) (omega arith) }
 
 module _ (p k limit : ℕ) where
   -- once collected, nothing changes its fate
-  pub still-gone : {t : Settings} {g : Doing} {q : Queue} {row : List ℕ} (l : List Event) (f : Fate) → Gone limit f → Standing p k limit t g q row (fate p l f)
+  pub still-gone : {t : Settings} {g : Doing} {q : Queue} {row : List ℕ} (l : List Event) (f : Fate) → Gone limit f
+      → Standing p k limit t g q row (fate p l f)
   still-gone l f h = gone (rw (frozen p l f (h .collected)) h)
 
-  pub stayed-gone : {X : ℕ → Fate → Type 0} {t : Settings} {q : Queue} {row : List ℕ} (l : List Event) (f : Fate) → Gone limit f → Between p limit X t q row (fate p l f)
+  pub stayed-gone : {X : ℕ → Fate → Type 0} {t : Settings} {q : Queue} {row : List ℕ} (l : List Event) (f : Fate)
+      → Gone limit f → Between p limit X t q row (fate p l f)
   stayed-gone l f h = gone (rw (frozen p l f (h .collected)) h)
 
   -- ---- a sending
-  ours-sent : {t′ : Settings} {g′ : Doing} {q′ : Queue} {row′ : List ℕ} (n : ℕ) (o : List ℕ) (t : ℕ) (f : Fate) → n ≡ p → f .collected ≡ false → Standing p k limit t′ g′ q′ row′ (sentOnce f) → Standing p k limit t′ g′ q′ row′ (fate p (sends (aRequest High n) o t ∷ []) f)
+  ours-sent : {t′ : Settings} {g′ : Doing} {q′ : Queue} {row′ : List ℕ} (n : ℕ) (o : List ℕ) (t : ℕ) (f : Fate)
+      → n ≡ p → f .collected ≡ false → Standing p k limit t′ g′ q′ row′ (sentOnce f)
+      → Standing p k limit t′ g′ q′ row′ (fate p (sends (aRequest High n) o t ∷ []) f)
   ours-sent n o t f e c h = rw (fate-one p (sends (aRequest High n) o t) f c, meets-sent p n o t f e) h
 
-  other-sent : {t′ : Settings} {g′ : Doing} {q′ : Queue} {row′ : List ℕ} (n : ℕ) (o : List ℕ) (t : ℕ) (f : Fate) → (n ≡ p → ⊥) → Standing p k limit t′ g′ q′ row′ f → Standing p k limit t′ g′ q′ row′ (fate p (sends (aRequest High n) o t ∷ []) f)
+  other-sent : {t′ : Settings} {g′ : Doing} {q′ : Queue} {row′ : List ℕ} (n : ℕ) (o : List ℕ) (t : ℕ) (f : Fate)
+      → (n ≡ p → ⊥) → Standing p k limit t′ g′ q′ row′ f
+      → Standing p k limit t′ g′ q′ row′ (fate p (sends (aRequest High n) o t ∷ []) f)
   other-sent n o t f e h = rw (stays p (sends (aRequest High n) o t) f (meets-other p n o t f e)) h
 
-  lower-sent : {t′ : Settings} {g′ : Doing} {q′ : Queue} {row′ : List ℕ} (n : ℕ) (o : List ℕ) (t : ℕ) (f : Fate) → Standing p k limit t′ g′ q′ row′ f → Standing p k limit t′ g′ q′ row′ (fate p (sends (aRequest Low n) o t ∷ []) f)
+  lower-sent : {t′ : Settings} {g′ : Doing} {q′ : Queue} {row′ : List ℕ} (n : ℕ) (o : List ℕ) (t : ℕ) (f : Fate)
+      → Standing p k limit t′ g′ q′ row′ f
+      → Standing p k limit t′ g′ q′ row′ (fate p (sends (aRequest Low n) o t ∷ []) f)
   lower-sent n o t f h = rw (stays p (sends (aRequest Low n) o t) f (meets-low p n o t f)) h
 
   -- ---- send
   our-first : (n : ℕ) (f : Fate) → Opening k 0 f → Stage k limit 0 (sending High n) (sentOnce f)
   our-first n f o =
       let e = sending-once High n in
-      ours (sending-flight High n) (sending-served High n) refl (rw e (fresh-sent 0 f (o .fresh))) (rw e (omega arith)) (held-sent k 0 f (o .time))
+      ours (sending-flight High n) (sending-served High n) refl (rw e (fresh-sent 0 f (o .fresh)))
+      (rw e (omega arith)) (held-sent k 0 f (o .time))
 
-  first-sent : (d : ℕ) (s : Site) (f : Fate) → Ground limit (s .core .settings) (s .core .high) (s .high .row) → Waiting p d (s .core .high) → Opening k d f → StandsAt p k limit (sent High s) (fate p (firstSending High s ∷ []) f)
+  first-sent : (d : ℕ) (s : Site) (f : Fate) → Ground limit (s .core .settings) (s .core .high) (s .high .row)
+      → Waiting p d (s .core .high) → Opening k d f
+      → StandsAt p k limit (sent High s) (fate p (firstSending High s ∷ []) f)
   unfolding sendCore withCore withDoing queueOf rowsOf
   first-sent zero s f g w o =
       ours-sent _ _ _ f (current-ours p _ w) (o .fresh .collected) (waits zero g w (our-first _ f o))
@@ -154,12 +171,15 @@ module _ (p k limit : ℕ) where
       other-sent _ _ _ f (current-ahead p (suc d) _ (g .rowed .ruled) (omega arith) w)
       (waits (suc d) g w (ahead (sending-flight High _) (sending-served High _) (omega arith) (o .fresh) (o .time)))
 
-  shut-sent : (s : Site) (f : Fate) → Ground limit (s .core .settings) (s .core .high) (s .high .row) → Shut p (f .sendings) (s .core .high) (s .high .row) → Paid limit f → 0 < s .core .high .unconfirmed → StandsAt p k limit (sent High s) (fate p (firstSending High s ∷ []) f)
+  shut-sent : (s : Site) (f : Fate) → Ground limit (s .core .settings) (s .core .high) (s .high .row)
+      → Shut p (f .sendings) (s .core .high) (s .high .row) → Paid limit f → 0 < s .core .high .unconfirmed
+      → StandsAt p k limit (sent High s) (fate p (firstSending High s ∷ []) f)
   unfolding sendCore withCore withDoing queueOf rowsOf
   shut-sent s f g w o h =
       other-sent _ _ _ f (current-shut p _ _ _ (g .rowed .ruled) h w) (shut g w (record { some = λ a b. h }) o)
 
-  pub low-sent : (s : Site) (f : Fate) → BetweenAt p limit (Pausing k) s f → StandsAt p k limit (sent Low s) (fate p (firstSending Low s ∷ []) f)
+  pub low-sent : (s : Site) (f : Fate) → BetweenAt p limit (Pausing k) s f
+      → StandsAt p k limit (sent Low s) (fate p (firstSending Low s ∷ []) f)
   unfolding sendCore withCore withDoing queueOf rowsOf
   low-sent s f (waits d g w o) =
       lower-sent _ _ _ f (waits d g w (lower (sending-flight Low _) (sending-served Low _) o))
@@ -167,7 +187,9 @@ module _ (p k limit : ℕ) where
       lower-sent _ _ _ f (shut g w (record { some = λ a b. absurd (high-low (sym b ∙ sending-served Low _)) }) o)
   low-sent s f (gone h) = still-gone _ f h
 
-  pub high-sent : (X : ℕ → Fate → Type 0) → ((d : ℕ) (f : Fate) → X d f → Opening k d f) → (s : Site) (f : Fate) → BetweenAt p limit X s f → 0 < s .core .high .unconfirmed → StandsAt p k limit (sent High s) (fate p (firstSending High s ∷ []) f)
+  pub high-sent : (X : ℕ → Fate → Type 0) → ((d : ℕ) (f : Fate) → X d f → Opening k d f) → (s : Site) (f : Fate)
+      → BetweenAt p limit X s f → 0 < s .core .high .unconfirmed
+      → StandsAt p k limit (sent High s) (fate p (firstSending High s ∷ []) f)
   high-sent X x s f (waits d g w o) h = first-sent d s f g w (x d f o)
   high-sent X x s f (shut g w o) h = shut-sent s f g w o h
   high-sent X x s f (gone z) h = still-gone _ f z
@@ -177,12 +199,14 @@ module _ (p k limit : ℕ) where
   unflown h = record { some = λ a b. clash a h }
 
   -- with nothing being sent, the request stands as between acts
-  pub at-rest : {t : Settings} {g : Doing} {q : Queue} {row : List ℕ} {f : Fate} → flight (g .phase) ≡ false → Between p limit (Off k) t q row f → Standing p k limit t g q row f
+  pub at-rest : {t : Settings} {g : Doing} {q : Queue} {row : List ℕ} {f : Fate} → flight (g .phase) ≡ false
+      → Between p limit (Off k) t q row f → Standing p k limit t g q row f
   at-rest h (waits d g w o) = waits d g w (off h o)
   at-rest h (shut g w o) = shut g w (unflown h) o
   at-rest h (gone z) = gone z
 
-  pub rested : {t : Settings} {g : Doing} {q : Queue} {row : List ℕ} {f : Fate} → flight (g .phase) ≡ false → Standing p k limit t g q row f → Between p limit (Off k) t q row f
+  pub rested : {t : Settings} {g : Doing} {q : Queue} {row : List ℕ} {f : Fate} → flight (g .phase) ≡ false
+      → Standing p k limit t g q row f → Between p limit (Off k) t q row f
   rested h (waits d g w (off a o)) = waits d g w o
   rested h (waits d g w (ours a b c e i j)) = clash a h
   rested h (waits d g w (ahead a b c e i)) = clash a h
@@ -191,14 +215,16 @@ module _ (p k limit : ℕ) where
   rested h (gone z) = gone z
 
   -- ---- a hold ends, a hold begins
-  pub after-end : (s : Site) (f : Fate) → BetweenAt p limit (Pausing k) s f → BetweenAt p limit (Off k) s (fate p (ends ∷ []) f)
+  pub after-end : (s : Site) (f : Fate) → BetweenAt p limit (Pausing k) s f
+      → BetweenAt p limit (Off k) s (fate p (ends ∷ []) f)
   after-end s f (waits d g w o) =
       rw (fate-one p ends f (o .fresh .collected), meets-ends p f) (waits d g w (off-ended k d f o))
   after-end s f (shut g w o) =
       rw (fate-one p ends f (o .collected), meets-ends p f) (shut g (shut-ended f w) (paid-ended limit f o))
   after-end s f (gone z) = rw (frozen p (ends ∷ []) f (z .collected)) (gone z)
 
-  pub opened : {t : Settings} {q : Queue} {row : List ℕ} (f : Fate) → Between p limit (Off k) t q row f → Between p limit (Opening k) t q row (fate p (begins ∷ []) f)
+  pub opened : {t : Settings} {q : Queue} {row : List ℕ} (f : Fate) → Between p limit (Off k) t q row f
+      → Between p limit (Opening k) t q row (fate p (begins ∷ []) f)
   opened f (waits d g w o) =
       rw (fate-one p begins f (o .fresh .collected), meets-begins p f) (waits d g w (opening-begun k d f o))
   opened f (shut g w o) =
@@ -206,37 +232,54 @@ module _ (p k limit : ℕ) where
   opened f (gone z) = rw (frozen p (begins ∷ []) f (z .collected)) (gone z)
 
   -- ---- a confirmation
-  closes-ours : {t′ : Settings} {q′ : Queue} {row′ : List ℕ} (n m c : ℕ) (f : Fate) → n ≡ p → f .collected ≡ false → Between p limit (Pausing k) t′ q′ row′ (confirmedWith c f) → Between p limit (Pausing k) t′ q′ row′ (fate p (confirmed High n m c ∷ []) f)
+  closes-ours : {t′ : Settings} {q′ : Queue} {row′ : List ℕ} (n m c : ℕ) (f : Fate) → n ≡ p → f .collected ≡ false
+      → Between p limit (Pausing k) t′ q′ row′ (confirmedWith c f)
+      → Between p limit (Pausing k) t′ q′ row′ (fate p (confirmed High n m c ∷ []) f)
   closes-ours n m c f e z h = rw (fate-one p (confirmed High n m c) f z, meets-confirmed p n m c f e) h
 
-  closes-other : {t′ : Settings} {q′ : Queue} {row′ : List ℕ} (n m c : ℕ) (f : Fate) → (n ≡ p → ⊥) → Between p limit (Pausing k) t′ q′ row′ f → Between p limit (Pausing k) t′ q′ row′ (fate p (confirmed High n m c ∷ []) f)
+  closes-other : {t′ : Settings} {q′ : Queue} {row′ : List ℕ} (n m c : ℕ) (f : Fate) → (n ≡ p → ⊥)
+      → Between p limit (Pausing k) t′ q′ row′ f
+      → Between p limit (Pausing k) t′ q′ row′ (fate p (confirmed High n m c ∷ []) f)
   closes-other n m c f e h = rw (stays p (confirmed High n m c) f (meets-another p n m c f e)) h
 
-  closes-low : {t′ : Settings} {q′ : Queue} {row′ : List ℕ} (n m c : ℕ) (f : Fate) → Between p limit (Pausing k) t′ q′ row′ f → Between p limit (Pausing k) t′ q′ row′ (fate p (confirmed Low n m c ∷ []) f)
+  closes-low : {t′ : Settings} {q′ : Queue} {row′ : List ℕ} (n m c : ℕ) (f : Fate)
+      → Between p limit (Pausing k) t′ q′ row′ f
+      → Between p limit (Pausing k) t′ q′ row′ (fate p (confirmed Low n m c ∷ []) f)
   closes-low n m c f h = rw (stays p (confirmed Low n m c) f (meets-lower p n m c f)) h
 
   -- of the high queue
-  pub close-high : (o : Outcome) (x : List ℕ) (s : Site) (f : Fate) → flight (s .core .doing .phase) ≡ true → s .core .doing .served ≡ High → StandsAt p k limit s f → BetweenAt p limit (Pausing k) (closeOf High o x s .site) (fate p (closing High o s ∷ []) f)
+  pub close-high : (o : Outcome) (x : List ℕ) (s : Site) (f : Fate) → flight (s .core .doing .phase) ≡ true
+      → s .core .doing .served ≡ High → StandsAt p k limit s f
+      → BetweenAt p limit (Pausing k) (closeOf High o x s .site) (fate p (closing High o s ∷ []) f)
   unfolding closeOf done withRows withMarks withCore withQueue queueOf rowsOf confirm
   close-high o x s f h e (waits d g w (off a z)) = clash h a
   close-high o x s f h e (waits d g w (ours a b c z i j)) =
       let w0 : Waiting p 0 (s .core .high) = rw c at w in
       closes-ours _ _ _ f (current-ours p _ w0) (z .collected)
       (shut (ground-closed (s .core .high) (statusOf o) (s .core .doing .sendings) x (s .high .row) (s .high .area) g (w .within))
-      (rw (sent-count f (s .core .doing .sendings) (z .sendings)) (shut-now p (s .core .doing .sendings) (s .core .high) (s .high .row) (g .rowed) (statusOf o) x (s .high .area) w0))
+      (rw (sent-count f (s .core .doing .sendings) (z .sendings))
+      (shut-now p (s .core .doing .sendings) (s .core .high) (s .high .row) (g .rowed) (statusOf o) x
+      (s .high .area) w0))
       (paid-now _ limit f z i))
   close-high o x s f h e (waits d g w (ahead a b c z i)) =
       closes-other _ _ _ f (current-ahead p d _ (g .rowed .ruled) c w)
-      (waits (d - 1) (ground-closed (s .core .high) (statusOf o) (s .core .doing .sendings) x (s .high .row) (s .high .area) g (w .within)) (waiting-confirmed p d _ c w) (pausing-closed k d f c z i))
+      (waits (d - 1)
+      (ground-closed (s .core .high) (statusOf o) (s .core .doing .sendings) x (s .high .row) (s .high .area) g
+      (w .within)) (waiting-confirmed p d _ c w) (pausing-closed k d f c z i))
   close-high o x s f h e (waits d g w (lower a b c)) = absurd (high-low (sym e ∙ b))
   close-high o x s f h e (shut g w a z) =
       let n = a .some h e in
       closes-other _ _ _ f (current-shut p _ _ _ (g .rowed .ruled) n w)
-      (shut (ground-closed (s .core .high) (statusOf o) (s .core .doing .sendings) x (s .high .row) (s .high .area) g n) (shut-confirmed p (f .sendings) (s .core .high) (s .high .row) (g .rowed) (statusOf o) (s .core .doing .sendings) x (s .high .area) n w) z)
+      (shut
+      (ground-closed (s .core .high) (statusOf o) (s .core .doing .sendings) x (s .high .row) (s .high .area) g n)
+      (shut-confirmed p (f .sendings) (s .core .high) (s .high .row) (g .rowed) (statusOf o)
+      (s .core .doing .sendings) x (s .high .area) n w) z)
   close-high o x s f h e (gone z) = stayed-gone _ f z
 
   -- of the low queue
-  pub close-low : (o : Outcome) (x : List ℕ) (s : Site) (f : Fate) → flight (s .core .doing .phase) ≡ true → s .core .doing .served ≡ Low → StandsAt p k limit s f → BetweenAt p limit (Pausing k) (closeOf Low o x s .site) (fate p (closing Low o s ∷ []) f)
+  pub close-low : (o : Outcome) (x : List ℕ) (s : Site) (f : Fate) → flight (s .core .doing .phase) ≡ true
+      → s .core .doing .served ≡ Low → StandsAt p k limit s f
+      → BetweenAt p limit (Pausing k) (closeOf Low o x s .site) (fate p (closing Low o s ∷ []) f)
   unfolding closeOf done withRows withMarks withCore withQueue queueOf rowsOf confirm
   close-low o x s f h e (waits d g w (off a z)) = clash h a
   close-low o x s f h e (waits d g w (ours a b c z i j)) = absurd (high-low (sym b ∙ e))
@@ -246,7 +289,9 @@ module _ (p k limit : ℕ) where
   close-low o x s f h e (gone z) = stayed-gone _ f z
 
   -- ---- "the same octets again"
-  pub again-high : (s : Site) (f : Fate) → flight (s .core .doing .phase) ≡ true → s .core .doing .served ≡ High → s .core .doing .sendings ≤ s .core .settings .retries .0 → StandsAt p k limit s f → StandsAt p k limit (sentAgain s) (fate p (nextSending High s ∷ []) f)
+  pub again-high : (s : Site) (f : Fate) → flight (s .core .doing .phase) ≡ true → s .core .doing .served ≡ High
+      → s .core .doing .sendings ≤ s .core .settings .retries .0 → StandsAt p k limit s f
+      → StandsAt p k limit (sentAgain s) (fate p (nextSending High s ∷ []) f)
   unfolding once withCore withDoing queueOf rowsOf
   again-high s f h e l (waits d g w (off a z)) = clash h a
   again-high s f h e l (waits d g w (ours a b c z i j)) =
@@ -256,10 +301,12 @@ module _ (p k limit : ℕ) where
       other-sent _ _ _ f (current-ahead p d _ (g .rowed .ruled) c w) (waits d g w (ahead a b c z i))
   again-high s f h e l (waits d g w (lower a b c)) = absurd (high-low (sym e ∙ b))
   again-high s f h e l (shut g w a z) =
-      other-sent _ _ _ f (current-shut p _ _ _ (g .rowed .ruled) (a .some h e) w) (shut g w (record { some = a .some }) z)
+      other-sent _ _ _ f (current-shut p _ _ _ (g .rowed .ruled) (a .some h e) w)
+      (shut g w (record { some = a .some }) z)
   again-high s f h e l (gone z) = still-gone _ f z
 
-  pub again-low : (s : Site) (f : Fate) → flight (s .core .doing .phase) ≡ true → s .core .doing .served ≡ Low → StandsAt p k limit s f → StandsAt p k limit (sentAgain s) (fate p (nextSending Low s ∷ []) f)
+  pub again-low : (s : Site) (f : Fate) → flight (s .core .doing .phase) ≡ true → s .core .doing .served ≡ Low
+      → StandsAt p k limit s f → StandsAt p k limit (sentAgain s) (fate p (nextSending Low s ∷ []) f)
   unfolding once withCore withDoing queueOf rowsOf
   again-low s f h e (waits d g w (off a z)) = clash h a
   again-low s f h e (waits d g w (ours a b c z i j)) = absurd (high-low (sym b ∙ e))

@@ -61,7 +61,9 @@ startable t ts masters e =
 -- the state that start gives
 abbrev fresh : Settings → ℕ → List ℕ → List ℕ → ℕ → ℕ → State
 fresh t ts masters points high low =
-    stateOf (freshWorld (freshCore t ts masters (emptyQueue high) (emptyQueue low)) masters points (replicate 255 0) noRows noRows)
+    stateOf
+    (freshWorld (freshCore t ts masters (emptyQueue high) (emptyQueue low)) masters points (replicate 255 0) noRows
+    noRows)
 
 record Given (t : Settings) (ts : ℕ) (masters points : List ℕ) (high low : ℕ) (s : State) : Type 0 where
   startable : Startable t ts masters
@@ -71,7 +73,8 @@ record Given (t : Settings) (ts : ℕ) (masters points : List ℕ) (high low : �
   fewLow : low ≤ 64
   is : s ≡ fresh t ts masters points high low
 
-start-given : (t : Settings) (ts : ℕ) (masters points : List ℕ) (high low : ℕ) (s : State) → start t ts masters points high low ≡ Station s → Given t ts masters points high low s
+start-given : (t : Settings) (ts : ℕ) (masters points : List ℕ) (high low : ℕ) (s : State)
+    → start t ts masters points high low ≡ Station s → Given t ts masters points high low s
 unfolding start
 start-given t ts masters points high low s e =
     let a = past _ _ _ s e in
@@ -89,7 +92,8 @@ start-given t ts masters points high low s e =
     }
 
 -- ---- an empty queue is in order
-filed-empty : (ts n : ℕ) (r : Rows) → 0 < n → n ≤ 64 → length (r .row) ≡ SIZE * n → length (r .area) ≡ AREA * n → Filed ts (emptyQueue n) r
+filed-empty : (ts n : ℕ) (r : Rows) → 0 < n → n ≤ 64 → length (r .row) ≡ SIZE * n → length (r .area) ≡ AREA * n
+    → Filed ts (emptyQueue n) r
 unfolding emptyQueue
 filed-empty ts n r h l a b =
     record {
@@ -99,7 +103,10 @@ filed-empty ts n r h l a b =
       status = named-empty _ (r .row) refl;
     }
 
-orderly-fresh : (t : Settings) (ts : ℕ) (masters points : List ℕ) (high low : ℕ) (s : State) (u v : Rows) → Given t ts masters points high low s → length (u .row) ≡ SIZE * high → length (u .area) ≡ AREA * high → length (v .row) ≡ SIZE * low → length (v .area) ≡ AREA * low → Orderly t ts (worldOf (fresh t ts masters points high low) u v)
+orderly-fresh : (t : Settings) (ts : ℕ) (masters points : List ℕ) (high low : ℕ) (s : State) (u v : Rows)
+    → Given t ts masters points high low s → length (u .row) ≡ SIZE * high → length (u .area) ≡ AREA * high
+    → length (v .row) ≡ SIZE * low → length (v .area) ≡ AREA * low
+    → Orderly t ts (worldOf (fresh t ts masters points high low) u v)
 unfolding worldOf stateOf freshWorld freshCore forgotten
 orderly-fresh t ts masters points high low s u v g a b c d =
     record {
@@ -124,27 +131,36 @@ pub begun-orderly : (w : World) (b : Begun w) → Orderly (b .settings) (b .ts) 
 begun-orderly w b =
     let g = start-given _ _ _ _ _ _ _ (b .started) in
     rw (b .world, g .is)
-    (orderly-fresh (b .settings) (b .ts) (b .masters) (b .points) (b .high) (b .low) (b .state) (b .upper) (b .lower) g (b .upperRow) (b .upperArea) (b .lowerRow) (b .lowerArea))
+    (orderly-fresh (b .settings) (b .ts) (b .masters) (b .points) (b .high) (b .low) (b .state) (b .upper) (b .lower)
+    g (b .upperRow) (b .upperArea) (b .lowerRow) (b .lowerArea))
 
 -- both queues are empty
-queues-fresh : (t : Settings) (ts : ℕ) (masters points : List ℕ) (high low : ℕ) (u v : Rows) → (worldOf (fresh t ts masters points high low) u v .site .core .high ≡ emptyQueue high) × (worldOf (fresh t ts masters points high low) u v .site .core .low ≡ emptyQueue low)
+queues-fresh : (t : Settings) (ts : ℕ) (masters points : List ℕ) (high low : ℕ) (u v : Rows)
+    → (worldOf (fresh t ts masters points high low) u v .site .core .high ≡ emptyQueue high)
+    × (worldOf (fresh t ts masters points high low) u v .site .core .low ≡ emptyQueue low)
 unfolding worldOf stateOf freshWorld freshCore
 queues-fresh t ts masters points high low u v = (refl, refl)
 
-pub begun-queues : (w : World) (b : Begun w) → (w .site .core .high ≡ emptyQueue (b .high)) × (w .site .core .low ≡ emptyQueue (b .low))
+pub begun-queues : (w : World) (b : Begun w)
+    → (w .site .core .high ≡ emptyQueue (b .high)) × (w .site .core .low ≡ emptyQueue (b .low))
 begun-queues w b =
     let g = start-given _ _ _ _ _ _ _ (b .started) in
-    rw (b .world, g .is) (queues-fresh (b .settings) (b .ts) (b .masters) (b .points) (b .high) (b .low) (b .upper) (b .lower))
+    rw (b .world, g .is)
+    (queues-fresh (b .settings) (b .ts) (b .masters) (b .points) (b .high) (b .low) (b .upper) (b .lower))
 
 -- every mark is unknown, and the phase is Idle
-marks-fresh : (t : Settings) (ts : ℕ) (masters points : List ℕ) (high low : ℕ) (u v : Rows) → (worldOf (fresh t ts masters points high low) u v .site .marks ≡ replicate 127 UNKNOWN) × (worldOf (fresh t ts masters points high low) u v .site .core .doing .phase ≡ Idle)
+marks-fresh : (t : Settings) (ts : ℕ) (masters points : List ℕ) (high low : ℕ) (u v : Rows)
+    → (worldOf (fresh t ts masters points high low) u v .site .marks ≡ replicate 127 UNKNOWN)
+    × (worldOf (fresh t ts masters points high low) u v .site .core .doing .phase ≡ Idle)
 unfolding worldOf stateOf freshWorld freshCore
 marks-fresh t ts masters points high low u v = (refl, refl)
 
-pub begun-marks : (w : World) → Begun w → (w .site .marks ≡ replicate 127 UNKNOWN) × (w .site .core .doing .phase ≡ Idle)
+pub begun-marks : (w : World) → Begun w
+    → (w .site .marks ≡ replicate 127 UNKNOWN) × (w .site .core .doing .phase ≡ Idle)
 begun-marks w b =
     let g = start-given _ _ _ _ _ _ _ (b .started) in
-    rw (b .world, g .is) (marks-fresh (b .settings) (b .ts) (b .masters) (b .points) (b .high) (b .low) (b .upper) (b .lower))
+    rw (b .world, g .is)
+    (marks-fresh (b .settings) (b .ts) (b .masters) (b .points) (b .high) (b .low) (b .upper) (b .lower))
 
 -- "one that refuses states of its own making" is shut out: "in a run as demand 3 has it, no call is refused 29"
 pub begun-never-29 : (w : World) → Begun w → (l : List Call) → tells 29 (run l w .events) ≡ false

@@ -57,7 +57,8 @@ afloat-freed : {g : Doing} {q : Queue} → Afloat g q → Afloat g (freed q)
 unfolding freed
 afloat-freed a = record { some = a .some }
 
-unstarted : {p k limit : ℕ} (s : Site) (f : Fate) → s .core .high .unconfirmed ≡ 0 → BetweenAt p limit (Opening k) s f → BetweenAt p limit (Pausing k) s f
+unstarted : {p k limit : ℕ} (s : Site) (f : Fate) → s .core .high .unconfirmed ≡ 0 → BetweenAt p limit (Opening k) s f
+    → BetweenAt p limit (Pausing k) s f
 unstarted s f e (waits d g w o) = absurd (omega (arith, w .within))
 unstarted s f e (shut g w o) = shut g w o
 unstarted s f e (gone z) = gone z
@@ -73,9 +74,12 @@ module _ (p k limit : ℕ) where
   Stands (clearing a b) s f = Emptying p limit a (s .core .settings) (s .core .high) (s .high .row) f
 
   -- one more behind it
-  stage-grown : {t : Settings} {g : Doing} (ts : ℕ) (q : Queue) (row : List ℕ) (r : Record) (n : ℕ) (f : Fate) → Accepted ts q r n → Standing p k limit t g q row f → Standing p k limit t g (grown q) (put row (place q (q .confirmed + q .unconfirmed)) (Q.waiting r n)) f
+  stage-grown : {t : Settings} {g : Doing} (ts : ℕ) (q : Queue) (row : List ℕ) (r : Record) (n : ℕ) (f : Fate)
+      → Accepted ts q r n → Standing p k limit t g q row f
+      → Standing p k limit t g (grown q) (put row (place q (q .confirmed + q .unconfirmed)) (Q.waiting r n)) f
   stage-grown ts q row r n f a (waits d u w s) =
-      waits d (record { limits = u .limits; rowed = rowed-grown q row _ (u .rowed) (a .room) }) (waiting-grown p d q w) s
+      waits d (record { limits = u .limits; rowed = rowed-grown q row _ (u .rowed) (a .room) })
+      (waiting-grown p d q w) s
   stage-grown ts q row r n f a (shut u w b o) =
       shut (record { limits = u .limits; rowed = rowed-grown q row _ (u .rowed) (a .room) })
       (shut-grown p (f .sendings) q row (u .rowed) _ (a .room) w)
@@ -84,25 +88,34 @@ module _ (p k limit : ℕ) where
   stage-grown ts q row r n f a (gone z) = gone z
 
   -- ---- collect
-  ours-collected : {t′ : Settings} {g′ : Doing} {q′ : Queue} {row′ : List ℕ} (n : ℕ) (r : Record) (f : Fate) → n ≡ p → f .collected ≡ false → Standing p k limit t′ g′ q′ row′ (collectedWith (r .count) f) → Standing p k limit t′ g′ q′ row′ (fate p (collected High n r ∷ []) f)
+  ours-collected : {t′ : Settings} {g′ : Doing} {q′ : Queue} {row′ : List ℕ} (n : ℕ) (r : Record) (f : Fate) → n ≡ p
+      → f .collected ≡ false → Standing p k limit t′ g′ q′ row′ (collectedWith (r .count) f)
+      → Standing p k limit t′ g′ q′ row′ (fate p (collected High n r ∷ []) f)
   ours-collected n r f e c h = rw (fate-one p (collected High n r) f c, meets-collected p n r f e) h
 
-  other-collected : {t′ : Settings} {g′ : Doing} {q′ : Queue} {row′ : List ℕ} (n : ℕ) (r : Record) (f : Fate) → (n ≡ p → ⊥) → Standing p k limit t′ g′ q′ row′ f → Standing p k limit t′ g′ q′ row′ (fate p (collected High n r ∷ []) f)
+  other-collected : {t′ : Settings} {g′ : Doing} {q′ : Queue} {row′ : List ℕ} (n : ℕ) (r : Record) (f : Fate)
+      → (n ≡ p → ⊥) → Standing p k limit t′ g′ q′ row′ f
+      → Standing p k limit t′ g′ q′ row′ (fate p (collected High n r ∷ []) f)
   other-collected n r f e h = rw (stays p (collected High n r) f (meets-uncollected p n r f e)) h
 
   -- the oldest confirmed record of the high queue is handed back: its own, or another's
-  handed-high : (b : Bool) (s : Site) (f : Fate) → same (s .core .high .first) p ≡ b → 0 < s .core .high .confirmed → StandsAt p k limit s f → StandsAt p k limit (freedOf High s) (fate p (collected High (s .core .high .first) (at (s .high .row) (s .core .high .first)) ∷ []) f)
+  handed-high : (b : Bool) (s : Site) (f : Fate) → same (s .core .high .first) p ≡ b → 0 < s .core .high .confirmed
+      → StandsAt p k limit s f
+      → StandsAt p k limit (freedOf High s)
+      (fate p (collected High (s .core .high .first) (at (s .high .row) (s .core .high .first)) ∷ []) f)
   unfolding withCore withQueue queueOf
   handed-high b s f e c (waits d u w g) =
       other-collected _ _ f (first-waiting p d _ (u .rowed .ruled) c w)
-      (waits d (record { limits = u .limits; rowed = rowed-freed _ _ (u .rowed) c }) (waiting-freed p d _ (u .rowed .ruled) c w) g)
+      (waits d (record { limits = u .limits; rowed = rowed-freed _ _ (u .rowed) c })
+      (waiting-freed p d _ (u .rowed .ruled) c w) g)
   handed-high true s f e c (shut u w a o) =
       let i = true-same _ _ e in
       ours-collected _ _ f i (o .collected) (gone (gone-now _ limit f o (rw i (w .count))))
   handed-high false s f e c (shut u w a o) =
       let i = false-same _ _ e in
       other-collected _ _ f i
-      (shut (record { limits = u .limits; rowed = rowed-freed _ _ (u .rowed) c }) (shut-freed p (f .sendings) _ _ (u .rowed) i w) (afloat-freed a) o)
+      (shut (record { limits = u .limits; rowed = rowed-freed _ _ (u .rowed) c })
+      (shut-freed p (f .sendings) _ _ (u .rowed) i w) (afloat-freed a) o)
   handed-high b s f e c (gone z) = still-gone p k limit _ f z
 
   -- ---- moves and acts
@@ -117,17 +130,22 @@ module _ (p k limit : ℕ) where
   stands-moved (renews a b masters s h j l) f i = at-rest p k limit refl (emptied p limit j i)
 
   -- an event that makes nothing of it
-  told : {t : Settings} {g : Doing} {q : Queue} {row : List ℕ} (e : Event) (f : Fate) → meets p e f ≡ f → Standing p k limit t g q row f → Standing p k limit t g q row (fate p (e ∷ []) f)
+  told : {t : Settings} {g : Doing} {q : Queue} {row : List ℕ} (e : Event) (f : Fate) → meets p e f ≡ f
+      → Standing p k limit t g q row f → Standing p k limit t g q row (fate p (e ∷ []) f)
   told e f h i = rw (stays p e f h) i
 
   opening : (d : ℕ) (f : Fate) → Pausing k d f → Opening k d f
   opening d f o = record { fresh = o .fresh; time = o .time }
 
-  stands-acted : {x y : Point} {s s′ : Site} {e : Event} → Act Any x s e y s′ → (f : Fate) → Stands x s f → Stands y s′ (fate p (e ∷ []) f)
-  unfolding Stands passCore beginning once withRows withCore withQueue withDoing withHold withStranger queueOf rowsOf confirm take flight A.replies
+  stands-acted : {x y : Point} {s s′ : Site} {e : Event} → Act Any x s e y s′ → (f : Fate) → Stands x s f
+      → Stands y s′ (fate p (e ∷ []) f)
+  unfolding Stands passCore beginning once withRows withCore withQueue withDoing withHold withStranger queueOf rowsOf
+      confirm take flight A.replies
   stands-acted (opens clock s) f i = opened p k limit f i
-  stands-acted (serves true clock High s e) f i = high-sent p k limit (Opening k) (λ d f o. o) s f i (saw-high true _ clock e)
-  stands-acted (serves false clock High s e) f i = high-sent p k limit (Pausing k) opening s f i (saw-high false _ clock e)
+  stands-acted (serves true clock High s e) f i =
+      high-sent p k limit (Opening k) (λ d f o. o) s f i (saw-high true _ clock e)
+  stands-acted (serves false clock High s e) f i =
+      high-sent p k limit (Pausing k) opening s f i (saw-high false _ clock e)
   stands-acted (serves true clock Low s e) f i = low-sent p k limit s f (unstarted s f (saw-low true _ clock e .1) i)
   stands-acted (serves false clock Low s e) f i = low-sent p k limit s f i
   stands-acted (stops true clock s e) f i = after-end p k limit s f (unstarted s f (saw-none _ clock e) i)
@@ -138,8 +156,10 @@ module _ (p k limit : ℕ) where
       told _ f (meets-token p _ _ f) (at-rest p k limit (ap flight (e any)) (rested p k limit (ap flight (e any)) i))
   stands-acted (repeats High s j e h) f i = again-high p k limit s f (ap flight (e any)) j h i
   stands-acted (repeats Low s j e h) f i = again-low p k limit s f (ap flight (e any)) j i
-  stands-acted (closes High x o d s j e c) f i = close-high p k limit o d s f (ap flight (e any) ∙ closing-flight (c any)) j i
-  stands-acted (closes Low x o d s j e c) f i = close-low p k limit o d s f (ap flight (e any) ∙ closing-flight (c any)) j i
+  stands-acted (closes High x o d s j e c) f i =
+      close-high p k limit o d s f (ap flight (e any) ∙ closing-flight (c any)) j i
+  stands-acted (closes Low x o d s j e c) f i =
+      close-low p k limit o d s f (ap flight (e any) ∙ closing-flight (c any)) j i
   stands-acted (takes High r x s a e) f i =
       told _ f (meets-accepted p High _ f) (stage-grown _ (s .core .high) (s .high .row) r (length x) f a i)
   stands-acted (takes Low r x s a e) f i = told _ f (meets-accepted p Low _ f) i

@@ -29,27 +29,20 @@ use Rattle.state.specs.Counts.{Mark, answered, settled, destinationIn, c
 use Rattle.state.specs.Counts.{History, marksBy, alike, closes, heeds, history, Turn, Rightly}
 use Rattle.state.proofs.Phases.{flight}
 use Rattle.state.proofs.Cases.{Any}
+use Rattle.state.proofs.Keeping.{ofSendings}
 use Rattle.state.proofs.Filed.{Filed}
 use Rattle.state.proofs.Poise.{queueBy}
 use Rattle.state.proofs.Agreed.{Agree, agree-set, agree-like, meaning-unknown, meaning-turned}
 use Rattle.state.proofs.Agreed.{destination-octets, control-octets, near, nearer, due-control, counts-control}
 
--- ---- what is asked of events in a row: of each sending of a request, that it goes rightly
-unfoldable pub Sent : What → List ℕ → History → Type 0
-Sent (aRequest p n) o h = Rightly h p n o
-Sent aToken o h = Any
-Sent aReply o h = Any
+-- ---- what is asked of each sending: of a request's, that it goes rightly
+unfoldable pub Sent : What → List ℕ → ℕ → History → Type 0
+Sent (aRequest p n) o t h = Rightly h p n o
+Sent aToken o t h = Any
+Sent aReply o t h = Any
 
-unfoldable pub Meets : Event → History → Type 0
-Meets (accepted p n) h = Any
-Meets begins h = Any
-Meets ends h = Any
-Meets (sends x o t) h = Sent x o h
-Meets (confirmed p n status k) h = Any
-Meets (collected p n r) h = Any
-Meets (indicated f d) h = Any
-Meets resets h = Any
-Meets (refused n) h = Any
+abbrev pub Meets : Event → History → Type 0
+Meets e h = ofSendings Sent e h
 
 unfoldable pub Counts : History → List Event → Type 0
 Counts h [] = Any
@@ -81,20 +74,24 @@ pub record Rests (marks : List ℕ) (z : History) : Type 0 where
   pub agree : Agree marks (z .marks)
   pub nothing : z .pending ≡ none
 
-pub at-rest : {ts : Address} {marks : List ℕ} {g : Doing} {h l : Queue} {u v : Rows} {z : History} → flight (g .phase) ≡ false → Fits ts marks g h l u v z → Rests marks z
+pub at-rest : {ts : Address} {marks : List ℕ} {g : Doing} {h l : Queue} {u v : Rows} {z : History}
+    → flight (g .phase) ≡ false → Fits ts marks g h l u v z → Rests marks z
 at-rest e f = record { agree = f .agree; nothing = f .resting e }
 
-pub rested : {ts : Address} {marks : List ℕ} {g : Doing} {h l : Queue} {u v : Rows} {z : History} → flight (g .phase) ≡ false → Rests marks z → Fits ts marks g h l u v z
+pub rested : {ts : Address} {marks : List ℕ} {g : Doing} {h l : Queue} {u v : Rows} {z : History}
+    → flight (g .phase) ≡ false → Rests marks z → Fits ts marks g h l u v z
 rested e r = record { agree = r .agree; flying = λ f. absurd (true≢false (sym f ∙ e)); resting = λ f. r .nothing }
 
 -- ---- a queue's first unconfirmed record is fit
-pub first-fit : (ts : ℕ) (q : Queue) (r : Rows) → Filed ts q r → 0 < q .unconfirmed → unfit ts (recordIn q r) (recordIn q r .length) ≡ 0
+pub first-fit : (ts : ℕ) (q : Queue) (r : Rows) → Filed ts q r → 0 < q .unconfirmed
+    → unfit ts (recordIn q r) (recordIn q r .length) ≡ 0
 unfolding recordIn current
 first-fit ts q r f h =
     let e : q .confirmed + 0 ≡ q .confirmed = omega arith in
     rw e at (f .sound .fit 0 h)
 
-module _ (y : Priority) (ts : Address) (q : Queue) (marks : List ℕ) (r : Rows) (e : unfit (ts .0) (recordIn q r) (recordIn q r .length) ≡ 0) where
+module _ (y : Priority) (ts : Address) (q : Queue) (marks : List ℕ) (r : Rows)
+    (e : unfit (ts .0) (recordIn q r) (recordIn q r .length) ≡ 0) where
   destination-is : destinationIn (octetsIn ts y q marks r) ≡ recordIn q r .destination .0
   unfolding octetsIn headFor
   destination-is = destination-octets _ _ (near (ts .0) (recordIn q r) _ e)
@@ -104,14 +101,16 @@ module _ (y : Priority) (ts : Address) (q : Queue) (marks : List ℕ) (r : Rows)
   counts-is = ap counts (control-octets _ _) ∙ counts-control y _ _
 
   -- it goes with the bits of its mark
-  pub goes-rightly : (n : ℕ) (z : History) → Agree marks (z .marks) → Turn y n (octetsIn ts y q marks r) (z .pending) → Rightly z y n (octetsIn ts y q marks r)
+  pub goes-rightly : (n : ℕ) (z : History) → Agree marks (z .marks) → Turn y n (octetsIn ts y q marks r) (z .pending)
+      → Rightly z y n (octetsIn ts y q marks r)
   unfolding octetsIn headFor
   goes-rightly n z a t =
       record {
         service = serviceOf y (recordIn q r .service);
         control =
             control-octets _ _
-            ∙ due-control y _ _ _ (λ f. a .each _ (nearer (ts .0) (recordIn q r) _ e f) ∙ ap (z .marks) (sym destination-is));
+            ∙ due-control y _ _ _
+            (λ f. a .each _ (nearer (ts .0) (recordIn q r) _ e f) ∙ ap (z .marks) (sym destination-is));
         turn = t;
       }
 
@@ -130,41 +129,52 @@ pub settled-replied : (n : ℕ) (m : Mark) → (n ≡ NA → ⊥) → settled n 
 unfolding settled
 settled-replied n m h = pick-false _ _ (same-false h)
 
-closes-same : (y : Priority) (n status : ℕ) (o : List ℕ) (z : History) → closes y n status (sent y n o) z ≡ record { marks = marksBy status o (z .marks); pending = none }
+closes-same : (y : Priority) (n status : ℕ) (o : List ℕ) (z : History)
+    → closes y n status (sent y n o) z ≡ record { marks = marksBy status o (z .marks); pending = none }
 unfolding closes alike
 closes-same High n status o z = pick-true _ _ refl ∙ pick-true _ _ (same-true refl)
 closes-same Low n status o z = pick-true _ _ refl ∙ pick-true _ _ (same-true refl)
 
-pub closes-own : (y : Priority) (n status : ℕ) (o : List ℕ) (z : History) → z .pending ≡ sent y n o → closes y n status (z .pending) z ≡ record { marks = marksBy status o (z .marks); pending = none }
+pub closes-own : (y : Priority) (n status : ℕ) (o : List ℕ) (z : History) → z .pending ≡ sent y n o
+    → closes y n status (z .pending) z ≡ record { marks = marksBy status o (z .marks); pending = none }
 closes-own y n status o z e = ap (λ (x : Pending). closes y n status x z) e ∙ closes-same y n status o z
 
-module _ (y : Priority) (ts : Address) (q : Queue) (marks : List ℕ) (r : Rows) (e : unfit (ts .0) (recordIn q r) (recordIn q r .length) ≡ 0) where
+module _ (y : Priority) (ts : Address) (q : Queue) (marks : List ℕ) (r : Rows)
+    (e : unfit (ts .0) (recordIn q r) (recordIn q r .length) ≡ 0) where
   -- of an SDN, no mark; of another, its destination's
-  uncounted : (status : ℕ) (m : ℕ → Mark) → same (recordIn q r .service) SDN ≡ true → (a : ℕ) → m a ≡ marksBy status (octetsIn ts y q marks r) m a
+  uncounted : (status : ℕ) (m : ℕ → Mark) → same (recordIn q r .service) SDN ≡ true → (a : ℕ)
+      → m a ≡ marksBy status (octetsIn ts y q marks r) m a
   unfolding marksBy
   uncounted status m h a = sym (pick-false _ _ (counts-is y ts q marks r e ∙ pick-true _ _ h))
 
-  recounted : (status : ℕ) (m : ℕ → Mark) → same (recordIn q r .service) SDN ≡ false → (a : ℕ) → pick (same a (recordIn q r .destination .0)) (settled status (m a)) (m a) ≡ marksBy status (octetsIn ts y q marks r) m a
+  recounted : (status : ℕ) (m : ℕ → Mark) → same (recordIn q r .service) SDN ≡ false → (a : ℕ)
+      → pick (same a (recordIn q r .destination .0)) (settled status (m a)) (m a)
+      ≡ marksBy status (octetsIn ts y q marks r) m a
   unfolding marksBy
   recounted status m h a =
       ap (λ (d : ℕ). pick (same a d) (settled status (m a)) (m a)) (sym (destination-is y ts q marks r e))
       ∙ sym (pick-true _ _ (counts-is y ts q marks r e ∙ pick-false _ _ h))
 
-  pub agree-closed : (o : Outcome) (m : ℕ → Mark) → Suits o (recordIn q r .service) → Agree marks m → Agree (marksAfter o (recordIn q r .destination .0) marks) (marksBy (statusOf o) (octetsIn ts y q marks r) m)
+  pub agree-closed : (o : Outcome) (m : ℕ → Mark) → Suits o (recordIn q r .service) → Agree marks m
+      → Agree (marksAfter o (recordIn q r .destination .0) marks) (marksBy (statusOf o) (octetsIn ts y q marks r) m)
   unfolding marksAfter statusOf
   agree-closed Gone m (gone s h) a = agree-like marks m _ (uncounted _ m h) a
   agree-closed Lost m (lost s h) a =
       agree-like _ _ _ (recounted NA m h)
-      (agree-set marks m _ UNKNOWN (settled NA) (nearer (ts .0) (recordIn q r) _ e h) (meaning-unknown ∙ sym (settled-lost _)) a)
+      (agree-set marks m _ UNKNOWN (settled NA) (nearer (ts .0) (recordIn q r) _ e h)
+      (meaning-unknown ∙ sym (settled-lost _)) a)
   agree-closed (Replied n) m (replied j s h k) a =
       agree-like _ _ _ (recounted n m h)
-      (agree-set marks m _ _ (settled n) (nearer (ts .0) (recordIn q r) _ e h) (meaning-turned _ ∙ ap answered (a .each _ (nearer (ts .0) (recordIn q r) _ e h)) ∙ sym (settled-replied n _ k)) a)
+      (agree-set marks m _ _ (settled n) (nearer (ts .0) (recordIn q r) _ e h)
+      (meaning-turned _ ∙ ap answered (a .each _ (nearer (ts .0) (recordIn q r) _ e h)) ∙ sym
+      (settled-replied n _ k)) a)
 
 -- ---- what is being sent stays as it is while its queue is changed behind or before it
 abbrev pub goingIn : Priority → Address → List ℕ → Queue → Rows → Pending
 goingIn y ts marks q r = sent y (current q) (octetsIn ts y q marks r)
 
-same-going : (y : Priority) (ts : Address) (marks : List ℕ) (q q′ : Queue) (r r′ : Rows) → current q′ ≡ current q → recordIn q′ r′ ≡ recordIn q r → dataIn q′ r′ ≡ dataIn q r → goingIn y ts marks q′ r′ ≡ goingIn y ts marks q r
+same-going : (y : Priority) (ts : Address) (marks : List ℕ) (q q′ : Queue) (r r′ : Rows) → current q′ ≡ current q
+    → recordIn q′ r′ ≡ recordIn q r → dataIn q′ r′ ≡ dataIn q r → goingIn y ts marks q′ r′ ≡ goingIn y ts marks q r
 unfolding octetsIn
 same-going y ts marks q q′ r r′ e f g = rw (e, f, g)
 
@@ -182,12 +192,15 @@ freed-data : (q : Queue) (r : Rows) → Ruled q → 0 < q .confirmed → dataIn 
 unfolding dataIn
 freed-data q r u h = rw (freed-current q u h, freed-record q r u h)
 
-module _ (y : Priority) (ts : Address) (marks : List ℕ) (q : Queue) (r : Rows) (f : Filed (ts .0) q r) (h : 0 < q .unconfirmed) where
+module _ (y : Priority) (ts : Address) (marks : List ℕ) (q : Queue) (r : Rows) (f : Filed (ts .0) q r)
+    (h : 0 < q .unconfirmed) where
   fits-place : recordIn q r .length ≤ AREA
   fits-place = let s = fit-short (ts .0) (recordIn q r) _ (first-fit (ts .0) q r f h) in omega (arith, s)
 
   pub going-freed : 0 < q .confirmed → goingIn y ts marks (freed q) r ≡ goingIn y ts marks q r
-  going-freed c = same-going y ts marks q (freed q) r r (freed-current q (f .ruled) c) (freed-record q r (f .ruled) c) (freed-data q r (f .ruled) c)
+  going-freed c =
+      same-going y ts marks q (freed q) r r (freed-current q (f .ruled) c) (freed-record q r (f .ruled) c)
+      (freed-data q r (f .ruled) c)
 
   module _ (e : Record) (x : List ℕ) (a : q .confirmed + q .unconfirmed < q .places) (l : length x ≤ AREA) where
     abbrev later : ℕ
@@ -209,7 +222,9 @@ module _ (y : Priority) (ts : Address) (marks : List ℕ) (q : Queue) (r : Rows)
 
     same-record : recordIn (grown q) filled ≡ recordIn q r
     unfolding recordIn
-    same-record = ap (at (put (r .row) later e)) now ∙ at-other (r .row) later (current q) e (omega (arith, below, f .lent .places)) apart
+    same-record =
+        ap (at (put (r .row) later e)) now ∙ at-other (r .row) later (current q) e
+        (omega (arith, below, f .lent .places)) apart
 
     same-data : dataIn (grown q) filled ≡ dataIn q r
     unfolding dataIn

@@ -77,11 +77,13 @@ from-last (suc n) k q =
     let f : suc n + 1 ≡ suc (n + 1) = omega arith in
     rw f (ap (λ (l : List ℕ). place q k ∷ l) (rw e at (from-last n (k + 1) q)))
 
-from-shift : (n k : ℕ) (q q′ : Queue) → ((j : ℕ) → j < k + n → place q′ j ≡ place q (j + 1)) → placesFrom n k q′ ≡ placesFrom n (k + 1) q
+from-shift : (n k : ℕ) (q q′ : Queue) → ((j : ℕ) → j < k + n → place q′ j ≡ place q (j + 1))
+    → placesFrom n k q′ ≡ placesFrom n (k + 1) q
 unfolding placesFrom
 from-shift zero k q q′ h = refl
 from-shift (suc n) k q q′ h =
-    rw (h k (omega arith)) (ap (λ (l : List ℕ). place q (k + 1) ∷ l) (from-shift n (k + 1) q q′ (λ j i. h j (omega arith))))
+    rw (h k (omega arith))
+    (ap (λ (l : List ℕ). place q (k + 1) ∷ l) (from-shift n (k + 1) q q′ (λ j i. h j (omega arith))))
 
 pub line-grown : (q : Queue) → line (grown q) ≡ line q ++ (place q (q .confirmed + q .unconfirmed) ∷ [])
 unfolding line grown
@@ -113,7 +115,8 @@ acceptances-append y [] b = refl
 acceptances-append y (e ∷ a) b =
     ap (λ (l : List ℕ). acceptedIn y e ++ l) (acceptances-append y a b) ∙ sym (append-assoc (acceptedIn y e) _ _)
 
-confirmations-append : (y : Priority) (a b : List Event) → confirmations y (a ++ b) ≡ confirmations y a ++ confirmations y b
+confirmations-append : (y : Priority) (a b : List Event)
+    → confirmations y (a ++ b) ≡ confirmations y a ++ confirmations y b
 unfolding confirmations
 confirmations-append y [] b = refl
 confirmations-append y (e ∷ a) b =
@@ -123,7 +126,8 @@ confirmations-append y (e ∷ a) b =
 pub record Turns (y : Priority) (l : List ℕ) (e : List Event) (l′ : List ℕ) : Type 0 where
   pub turns : l ++ acceptances y e ≡ confirmations y e ++ l′
 
-pub turns-then : (y : Priority) (l m n : List ℕ) (a b : List Event) → Turns y l a m → Turns y m b n → Turns y l (a ++ b) n
+pub turns-then : (y : Priority) (l m n : List ℕ) (a b : List Event) → Turns y l a m → Turns y m b n
+    → Turns y l (a ++ b) n
 turns-then y l m n a b s t =
     record {
       turns =

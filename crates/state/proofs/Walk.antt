@@ -83,7 +83,8 @@ module _ (k : Type 0) where
       by (Goes k calm s calm) _ _ _ (λ h. record { trail = act (Acts.repasses s e (true-less _ _ h)) stop })
       (λ h. goes-after (Acts.drops s e (false-less _ _ h)) (goes-pass _))
 
-  goes-chosen : (starts : Bool) (clock : ℕ) (x : Choice) (s : Site) → choice starts (s .core) clock ≡ x → Goes k (choosing starts) s calm (chosen x s)
+  goes-chosen : (starts : Bool) (clock : ℕ) (x : Choice) (s : Site) → choice starts (s .core) clock ≡ x
+      → Goes k (choosing starts) s calm (chosen x s)
   unfolding chosen send sendEvents finish andThen done
   goes-chosen starts clock (Serve y) s e = record { trail = act (Acts.serves starts clock y s e) stop }
   goes-chosen starts clock PassOn s e = record { trail = act (Acts.stops starts clock s e) (goes-pass s .trail) }
@@ -97,19 +98,22 @@ module _ (k : Type 0) where
   unfolding begin andThen done
   goes-begin clock s = record { trail = act (Acts.opens clock s) (goes-choose true clock _ .trail) }
 
-  pub goes-token : (clock d a : ℕ) (s : Site) → (k → a ≤ 126) → (k → flight (s .core .doing .phase) ≡ false) → Goes k calm s calm (token clock d a s)
+  pub goes-token : (clock d a : ℕ) (s : Site) → (k → a ≤ 126) → (k → flight (s .core .doing .phase) ≡ false)
+      → Goes k calm s calm (token clock d a s)
   unfolding token
   goes-token clock d a s h f =
       by (Goes k calm s calm) _ _ _
       (λ e. by (Goes k calm s calm) _ _ _ (λ e. goes-still calm s)
       (λ n. by (Goes k calm s calm) _ _ _ (λ e. goes-after (Acts.lets-go s f) (goes-begin clock s))
       (λ m. by (Goes k calm s calm) _ _ _
-      (λ e. goes-after (Acts.lets-go s f) (goes-after (Acts.admits a s h (false-same _ _ n) (true-same _ _ e)) (goes-begin clock _)))
+      (λ e. goes-after (Acts.lets-go s f)
+      (goes-after (Acts.admits a s h (false-same _ _ n) (true-same _ _ e)) (goes-begin clock _)))
       (λ e. goes-after (Acts.notes a s h (false-same _ _ n) (false-same _ _ m) (false-same _ _ e)) (goes-still calm _)))))
       (λ e. goes-still calm s)
 
   -- ---- a request's end
-  goes-ended : (x : Phase) (o : Ending) (l : List ℕ) (clock : ℕ) (s : Site) → (k → s .core .doing .phase ≡ x) → (k → Closing x o l) → Goes k calm s calm (ended o l clock s)
+  goes-ended : (x : Phase) (o : Ending) (l : List ℕ) (clock : ℕ) (s : Site) → (k → s .core .doing .phase ≡ x)
+      → (k → Closing x o l) → Goes k calm s calm (ended o l clock s)
   unfolding ended close closeOf andThen done
   goes-ended x o l clock s e c =
       record { trail = act (Acts.closes _ x o l s refl e c) (goes-choose false clock _ .trail) }
@@ -117,7 +121,10 @@ module _ (k : Type 0) where
   goes-givenUp : (s : Site) → (k → s .core .doing .phase ≡ Awaited) → Goes k calm s calm (givenUp s)
   unfolding givenUp close closeOf over andThen done
   goes-givenUp s e =
-      record { trail = act (Acts.closes _ Awaited _ [] s refl e (λ z. Acts.lost)) (act (Acts.quits _) (move (Acts.rests _) stop)) }
+      record {
+        trail = act (Acts.closes _ Awaited _ [] s refl e (λ z. Acts.lost))
+            (act (Acts.quits _) (move (Acts.rests _) stop));
+      }
 
   goes-retry : (clock : ℕ) (s : Site) → (k → s .core .doing .phase ≡ Awaited) → Goes k calm s calm (retry clock s)
   unfolding retry again againOf againEvents done
@@ -125,19 +132,22 @@ module _ (k : Type 0) where
       by (Goes k calm s calm) _ _ _ (λ h. goes-ended Awaited _ [] clock s e (λ z. Acts.lost))
       (λ h. record { trail = act (Acts.repeats _ s refl e (false-less _ _ h)) stop })
 
-  goes-concluded : (clock : ℕ) (x : List ℕ) (v : Verdict) (s : Site) → (k → s .core .doing .phase ≡ Awaited) → (k → Lawful x v) → Goes k calm s calm (concluded clock x v s)
+  goes-concluded : (clock : ℕ) (x : List ℕ) (v : Verdict) (s : Site) → (k → s .core .doing .phase ≡ Awaited)
+      → (k → Lawful x v) → Goes k calm s calm (concluded clock x v s)
   unfolding concluded statusBy
   goes-concluded clock x (Plausible n) s e l =
       goes-ended Awaited _ x clock s e (λ z. Acts.replied n x (l z .status) (l z .low) (l z .short))
   goes-concluded clock x Vain s e l = goes-retry clock s e
   goes-concluded clock x Foreign s e l = goes-givenUp s e
 
-  pub goes-awaited : (clock : ℕ) (octets : List ℕ) (r : Reading) (s : Site) → (k → read octets ≡ r) → (k → s .core .doing .phase ≡ Awaited) → Goes k calm s calm (awaitedRead clock octets r s)
+  pub goes-awaited : (clock : ℕ) (octets : List ℕ) (r : Reading) (s : Site) → (k → read octets ≡ r)
+      → (k → s .core .doing .phase ≡ Awaited) → Goes k calm s calm (awaitedRead clock octets r s)
   unfolding awaitedRead
   goes-awaited clock octets (Unread n) s i e = goes-retry clock s e
   goes-awaited clock octets (Read f p) s i e = goes-concluded clock _ _ s e (λ z. lawful-judged octets f p _ _ (i z))
 
-  pub goes-sent : (x : Phase) (clock : ℕ) (s : Site) → (k → s .core .doing .phase ≡ x) → Goes k calm s calm (sentIn x clock s)
+  pub goes-sent : (x : Phase) (clock : ℕ) (s : Site) → (k → s .core .doing .phase ≡ x)
+      → Goes k calm s calm (sentIn x clock s)
   unfolding sentIn flight
   goes-sent Idle clock s e = goes-still calm s
   goes-sent Awaited clock s e = goes-still calm s
@@ -145,7 +155,8 @@ module _ (k : Type 0) where
   goes-sent Check clock s e = goes-still calm s
   goes-sent ToSelf clock s e = goes-after (Acts.lets-go s (λ z. ap flight (e z))) (goes-begin clock s)
 
-  pub goes-slot : (x : Phase) (clock : ℕ) (s : Site) → (k → s .core .doing .phase ≡ x) → Goes k calm s calm (slotIn x clock s)
+  pub goes-slot : (x : Phase) (clock : ℕ) (s : Site) → (k → s .core .doing .phase ≡ x)
+      → Goes k calm s calm (slotIn x clock s)
   unfolding slotIn
   goes-slot Idle clock s e = goes-still calm s
   goes-slot Awaited clock s e = goes-retry clock s e
@@ -173,26 +184,38 @@ carried-called : (d : Done) (w : World) → Goes Any calm (w .site) calm d → C
 unfolding called withSite
 carried-called d w g = record { trail = g .trail; started = refl; memory = λ m. m }
 
-carried-replying : (a : Answered) (w : World) → Answering (w .site .core) a → (Memorable (w .memory) → Minds a) → Carried w (replying a w)
+carried-replying : (a : Answered) (w : World) → Answering (w .site .core) a → (Memorable (w .memory) → Minds a)
+    → Carried w (replying a w)
 unfolding replying withMemory
-carried-replying a w t m = record { trail = trail-answers (w .site) (t .told); started = refl; memory = λ z. m z .memory }
+carried-replying a w t m =
+    record { trail = trail-answers (w .site) (t .told); started = refl; memory = λ z. m z .memory }
 
 -- after the pass's check is let go
-carried-rested : {d : Called} (w : World) → flight (w .site .core .doing .phase) ≡ false → Carried (withSite (rest (w .site)) w) d → Carried w d
+carried-rested : {d : Called} (w : World) → flight (w .site .core .doing .phase) ≡ false
+    → Carried (withSite (rest (w .site)) w) d → Carried w d
 unfolding withSite
 carried-rested w f c =
-    record { trail = move (Acts.lets-go _ (λ z. f)) (move (Acts.rests _) (c .trail)); started = c .started; memory = c .memory }
+    record {
+      trail = move (Acts.lets-go _ (λ z. f)) (move (Acts.rests _) (c .trail));
+      started = c .started;
+      memory = c
+          .memory;
+    }
 
 -- ---- frame
 module _ (clock : ℕ) (room : Bool) (high low octets : List ℕ) (u : length high ≤ 244) (l : length low ≤ 244) where
-  carried-idle : (x : Fields) (d : Part) (w : World) → read octets ≡ Read x d → flight (w .site .core .doing .phase) ≡ false → Carried w (idle clock room high low x d w)
+  carried-idle : (x : Fields) (d : Part) (w : World) → read octets ≡ Read x d
+      → flight (w .site .core .doing .phase) ≡ false → Carried w (idle clock room high low x d w)
   unfolding idle
-  carried-idle (Token a b) d w e f = carried-called _ w (goes-token Any clock _ _ (w .site) (λ z. read-token octets a b d e) (λ z. f))
+  carried-idle (Token a b) d w e f =
+      carried-called _ w (goes-token Any clock _ _ (w .site) (λ z. read-token octets a b d e) (λ z. f))
   carried-idle Short d w e f = carried-nothing w
   carried-idle (Frame h) d w e f =
-      carried-replying _ w (answering-answer _ _ _ room high low h d) (λ m. minds-answer _ _ _ room high low h d m (read-source octets h d e) u l)
+      carried-replying _ w (answering-answer _ _ _ room high low h d)
+      (λ m. minds-answer _ _ _ room high low h d m (read-source octets h d e) u l)
 
-  carried-read : (r : Reading) (w : World) → read octets ≡ r → flight (w .site .core .doing .phase) ≡ false → Carried w (idleRead clock room high low r w)
+  carried-read : (r : Reading) (w : World) → read octets ≡ r → flight (w .site .core .doing .phase) ≡ false
+      → Carried w (idleRead clock room high low r w)
   unfolding idleRead
   carried-read (Unread n) w e f = carried-nothing w
   carried-read (Read x d) w e f = carried-idle x d w e f
@@ -201,11 +224,13 @@ module _ (clock : ℕ) (room : Bool) (high low octets : List ℕ) (u : length hi
   unfolding rest withCore Rattle.state.specs.World.withDoing Rattle.state.specs.Hold.resting flight
   rest-unflown s = refl
 
-  carried-check : (w : World) → flight (w .site .core .doing .phase) ≡ false → Carried w (idleRead clock room high low (read octets) (withSite (rest (w .site)) w))
+  carried-check : (w : World) → flight (w .site .core .doing .phase) ≡ false
+      → Carried w (idleRead clock room high low (read octets) (withSite (rest (w .site)) w))
   unfolding withSite
   carried-check w f = carried-rested w f (carried-read _ _ refl (rest-unflown (w .site)))
 
-  pub carried-heard : (x : Phase) (w : World) → w .site .core .doing .phase ≡ x → Carried w (heard x clock room high low octets w)
+  pub carried-heard : (x : Phase) (w : World) → w .site .core .doing .phase ≡ x
+      → Carried w (heard x clock room high low octets w)
   unfolding heard flight
   carried-heard Idle w e = carried-read _ w refl (ap flight e)
   carried-heard Awaited w e = carried-called _ w (goes-awaited Any clock octets _ (w .site) (λ z. refl) (λ z. e))
@@ -225,28 +250,40 @@ unfolding drain confirm
 drain-none zero m l e = sym e
 drain-none (suc n) m l e = drain-none n 0 _ (fewer n (l .answer) e)
 
-among-started : (c : Core) (masters started : List ℕ) (k : Kept) → lawless c masters started k ≡ false → member started (c .ts .0) ≡ true
+among-started : (c : Core) (masters started : List ℕ) (k : Kept) → lawless c masters started k ≡ false
+    → member started (c .ts .0) ≡ true
 unfolding lawless unstarted
 among-started c masters started k e = is-said (not-turned _ (unrefused _ _ (is-said (unrefused _ _ e .0)) .1))
 
 module _ (k : Type 0) where
-  halts : (b : Bool) (s t : Site) (l : List Event) → flight (s .core .doing .phase) ≡ b → Trail k (clearing (countOf High (s .core)) (countOf Low (s .core))) s l calm t → Trail k halting s (broken (s .core .doing .phase) ++ l) calm t
+  halts : (b : Bool) (s t : Site) (l : List Event) → flight (s .core .doing .phase) ≡ b
+      → Trail k (clearing (countOf High (s .core)) (countOf Low (s .core))) s l calm t
+      → Trail k halting s (broken (s .core .doing .phase) ++ l) calm t
   halts true s t l e i = rw (broken-by (s .core .doing .phase) ∙ pick-true _ _ e) (act (Acts.breaks s e) i)
   halts false s t l e i = rw (broken-by (s .core .doing .phase) ∙ pick-false _ _ e) (move (Acts.spares s e) i)
 
-  clears-high : (n a b : ℕ) (s t : Site) (l : List Event) → n ≡ s .core .high .unconfirmed → ((c : ℕ) → Trail k (clearing c b) (filled High (drain n a (left (s .core .high) (s .high .row) (s .high .area))) s) l calm t) → Trail k (clearing a b) s (dismissed High n a (s .core .high) ++ l) calm t
+  clears-high : (n a b : ℕ) (s t : Site) (l : List Event) → n ≡ s .core .high .unconfirmed
+      → ((c : ℕ)
+      → Trail k (clearing c b)
+      (filled High (drain n a (left (s .core .high) (s .high .row) (s .high .area))) s) l calm t)
+      → Trail k (clearing a b) s (dismissed High n a (s .core .high) ++ l) calm t
   unfolding dismissed drain confirm withRows withCore withQueue queueOf rowsOf
   clears-high zero a b s t l e i = i a
   clears-high (suc n) a b s t l e i =
       act (Acts.clears-high a b s (omega arith)) (clears-high n 0 b _ t l (fewer n (s .core .high) e) i)
 
-  clears-low : (n a b : ℕ) (s t : Site) → n ≡ s .core .low .unconfirmed → ((c : ℕ) → Trail k (clearing a c) (filled Low (drain n b (left (s .core .low) (s .low .row) (s .low .area))) s) [] calm t) → Trail k (clearing a b) s (dismissed Low n b (s .core .low)) calm t
+  clears-low : (n a b : ℕ) (s t : Site) → n ≡ s .core .low .unconfirmed
+      → ((c : ℕ)
+      → Trail k (clearing a c) (filled Low (drain n b (left (s .core .low) (s .low .row) (s .low .area))) s)
+      [] calm t)
+      → Trail k (clearing a b) s (dismissed Low n b (s .core .low)) calm t
   unfolding dismissed drain confirm withRows withCore withQueue queueOf rowsOf
   clears-low zero a b s t e i = i b
   clears-low (suc n) a b s t e i =
       act (Acts.clears-low a b s (omega arith)) (clears-low n a 0 _ t (fewer n (s .core .low) e) i)
 
-  pub trail-resetting : (w : World) → (k → member (w .started) (w .site .core .ts .0) ≡ true) → Trail k calm (w .site) (resetting w .events) calm (resetting w .world .site)
+  pub trail-resetting : (w : World) → (k → member (w .started) (w .site .core .ts .0) ≡ true)
+      → Trail k calm (w .site) (resetting w .events) calm (resetting w .world .site)
   unfolding resetting freshWorld dismissal drained queueOf rowsOf withRows withCore withQueue
   trail-resetting w e =
       act (Acts.restarts (w .site))
@@ -259,7 +296,8 @@ reset-rest : (w : World) → (resetting w .world .started ≡ w .started) × Mem
 unfolding resetting freshWorld forgotten
 reset-rest w = (refl, record { source = omega arith; reply = omega arith })
 
-pub carried-resetting : (w : World) → lawless (w .site .core) (w .site .masters) (w .started) (w .memory .kept) ≡ false → Carried w (resetting w)
+pub carried-resetting : (w : World)
+    → lawless (w .site .core) (w .site .masters) (w .started) (w .memory .kept) ≡ false → Carried w (resetting w)
 carried-resetting w e =
     record {
       trail = trail-resetting Any w (λ z. among-started (w .site .core) (w .site .masters) (w .started) _ e);
@@ -279,7 +317,10 @@ spurned n w = declined n
 abbrev submittedTo : Priority → Record → List ℕ → Site → Left Taken
 submittedTo y r x s = submitted (s .core .ts .0) (queueOf y (s .core)) r x (rowsOf y s .row) (rowsOf y s .area)
 
-course-submit : (y : Priority) (r : Record) (x : List ℕ) (w : World) → Outcome (w .site .core .ts .0) (queueOf y (w .site .core)) r x (rowsOf y (w .site) .row) (rowsOf y (w .site) .area) (submittedTo y r x (w .site)) → Course w (called (submitting y (submittedTo y r x (w .site)) (w .site)) w)
+course-submit : (y : Priority) (r : Record) (x : List ℕ) (w : World)
+    → Outcome (w .site .core .ts .0) (queueOf y (w .site .core)) r x (rowsOf y (w .site) .row)
+    (rowsOf y (w .site) .area) (submittedTo y r x (w .site))
+    → Course w (called (submitting y (submittedTo y r x (w .site)) (w .site)) w)
 unfolding submitting done take Q.refuse
 course-submit y r x w (as-it-was n z e) =
     rw (← e) (by (λ (d : Done). Course w (called d w)) _ _ _ (λ b. absurd (z (true-same n 0 b))) (λ b. spurned n w))
@@ -290,14 +331,19 @@ course-submit y r x w (with-it u v a e) =
     (λ b. spurned 0 w))
 
 -- a fact of what a queue hands back: of every refusal, and of its oldest confirmed record
-pub handed-back : (P : Collected → Type 0) (q : Queue) (row area : List ℕ) → ((n : ℕ) → P (Uncollected n)) → (0 < q .confirmed → P (Handed (q .first) (at row (q .first)) (freed q))) → P (handed q row area)
+pub handed-back : (P : Collected → Type 0) (q : Queue) (row area : List ℕ) → ((n : ℕ) → P (Uncollected n))
+    → (0 < q .confirmed → P (Handed (q .first) (at row (q .first)) (freed q))) → P (handed q row area)
 unfolding handed Q.collected
 handed-back P q row area f g =
     by P _ _ _ (λ e. f 21)
     (λ e. by P _ _ _ (λ e. f 29)
     (λ e. by P _ _ _ (λ e. f 28) (λ e. by P _ _ _ (λ i. g (positive _ (false-same _ _ e))) (λ i. f 29))))
 
-pub course-collect : (y : Priority) (w : World) → Course w (called (collecting y (handed (queueOf y (w .site .core)) (rowsOf y (w .site) .row) (rowsOf y (w .site) .area)) (w .site)) w)
+pub course-collect : (y : Priority) (w : World)
+    → Course w
+    (called
+    (collecting y (handed (queueOf y (w .site .core)) (rowsOf y (w .site) .row) (rowsOf y (w .site) .area))
+    (w .site)) w)
 unfolding collecting done
 course-collect y w =
     handed-back (λ (c : Collected). Course w (called (collecting y c (w .site)) w)) _ _ _ (λ n. spurned n w)
@@ -310,7 +356,8 @@ course (submit y r x) w =
     (λ e. by (Course w) _ _ _ (λ e. declined 29) (λ e. course-submit y r x w (outcome _ _ r x _ _)))
 course (frame clock room high low octets out) w =
     by (Course w) _ _ _
-    (λ e. let u = short-updates out (length high) (length low) w (true-same _ _ e) in carried (carried-heard clock room high low octets (u .0) (u .1) _ w refl))
+    (λ e. let u = short-updates out (length high) (length low) w (true-same _ _ e) in carried
+    (carried-heard clock room high low octets (u .0) (u .1) _ w refl))
     (λ e. declined _)
 course (sent clock out) w = by (Course w) _ _ _ (λ e. carried (carried-sent clock w)) (λ e. declined _)
 course (slot clock out) w = by (Course w) _ _ _ (λ e. carried (carried-slot clock w)) (λ e. declined _)

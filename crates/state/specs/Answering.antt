@@ -138,7 +138,8 @@ answerNew c m n fcb fcv x h p =
     let o : List ℕ = replyOctets (c .ts) h (n .given) x in
     answered (remembered m (h .source) fcb fcv o) (replies c o ∷ shows (n .indicated) h p)
 
-unfoldable pub answerCounted : Core → List ℕ → Memory → Bool → Bool → Bool → Bool → List ℕ → List ℕ → Head → Part → Answered
+unfoldable pub answerCounted : Core → List ℕ → Memory → Bool → Bool → Bool → Bool → List ℕ → List ℕ → Head → Part
+    → Answered
 answerCounted c points m isSda fcb fcv room high low h p =
     pick (said (reserved (h .to))) (answered m [])
     (pick (said (repeated (m .kept) (h .source .0) fcb fcv)) (answered m (replies c (recalled m) ∷ []))

@@ -119,7 +119,9 @@ submit p r x w =
     pick (said (unlent (queueOf p (w .site .core)) (rowsOf p (w .site)))) (refuse 21 w)
     (pick (said (lawless (w .site .core) (w .site .masters) (w .started) (w .memory .kept))) (refuse 29 w)
     (called
-    (submitting p (submitted (w .site .core .ts .0) (queueOf p (w .site .core)) r x (rowsOf p (w .site) .row) (rowsOf p (w .site) .area)) (w .site))
+    (submitting p
+    (submitted (w .site .core .ts .0) (queueOf p (w .site .core)) r x (rowsOf p (w .site) .row)
+    (rowsOf p (w .site) .area)) (w .site))
     w))
 
 -- ---- collect
@@ -164,7 +166,8 @@ unless n w d = pick (same n 0) d (refuse n w)
 
 unfoldable pub frame : ℕ → Bool → List ℕ → List ℕ → List ℕ → ℕ → World → Called
 frame clock room high low octets out w =
-    unless (refusal out (length high) (length low) w) w (heard (w .site .core .doing .phase) clock room high low octets w)
+    unless (refusal out (length high) (length low) w) w
+    (heard (w .site .core .doing .phase) clock room high low octets w)
 
 -- ---- sent
 -- "SDN .. is confirmed OK at "sent""; "token to itself, and "sent" begins a hold"
@@ -224,7 +227,8 @@ countOf p c = sendingsOf (c .doing .served) p (begun (c .doing .phase) (c .doing
 
 unfoldable pub drained : Priority → Site → Left Queue
 drained p s =
-    drain (queueOf p (s .core) .unconfirmed) (countOf p (s .core)) (left (queueOf p (s .core)) (rowsOf p s .row) (rowsOf p s .area))
+    drain (queueOf p (s .core) .unconfirmed) (countOf p (s .core))
+    (left (queueOf p (s .core)) (rowsOf p s .row) (rowsOf p s .area))
 
 unfoldable pub dismissal : Priority → Core → List Event
 dismissal p c = dismissed p (queueOf p c .unconfirmed) (countOf p c) (queueOf p c)
@@ -238,7 +242,9 @@ resetting w =
     let l : Left Queue = drained Low (w .site) in
     record {
       world =
-          freshWorld (freshCore (c .settings) (c .ts .0) (w .started) (h .answer) (l .answer)) (w .started) (w .points) (w .memory .octets) (record { row = h .row; area = h .area }) (record { row = l .row; area = l .area });
+          freshWorld (freshCore (c .settings) (c .ts .0) (w .started) (h .answer) (l .answer)) (w .started)
+          (w .points) (w .memory .octets) (record { row = h .row; area = h .area })
+          (record { row = l .row; area = l .area });
       events = resets ∷ (broken (c .doing .phase) ++ (dismissal High c ++ dismissal Low c));
     }
 

@@ -122,7 +122,8 @@ pub data Turn (p : Priority) (n : ℕ) (o : List ℕ) : Pending → Type 0 where
 -- a request with the FCB and FCV that its destination's mark gives its service
 pub record Rightly (h : History) (p : Priority) (n : ℕ) (o : List ℕ) : Type 0 where
   pub service : Service
-  pub control : controlIn o ≡ Request service (due service (h .marks (destinationIn o)) .fcb) (due service (h .marks (destinationIn o)) .fcv)
+  pub control : controlIn o
+      ≡ Request service (due service (h .marks (destinationIn o)) .fcb) (due service (h .marks (destinationIn o)) .fcv)
   pub turn : Turn p n o (h .pending)
 
 -- ---- what follows of it, in words for lists of events
@@ -186,7 +187,12 @@ pub record Succession (e : List Event) : Type 0 where
   pub later : List ℕ
   pub laterWait : ℕ
   pub after : List Event
-  pub told : e ≡ before ++ (sends (aRequest queue place) earlier earlierWait ∷ (until ++ (confirmed queue place status count ∷ (since ++ (sends (aRequest nextQueue nextPlace) later laterWait ∷ after)))))
+  pub told : e
+      ≡ before ++
+      (sends (aRequest queue place) earlier earlierWait ∷
+      (until ++
+      (confirmed queue place status count ∷
+      (since ++ (sends (aRequest nextQueue nextPlace) later laterWait ∷ after)))))
   pub unanswered : unclosed queue place until ≡ true
   pub earlierCounts : counts (controlIn earlier) ≡ true
   pub laterCounts : counts (controlIn later) ≡ true

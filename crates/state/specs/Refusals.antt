@@ -42,7 +42,8 @@ unstarted c masters started =
 
 -- "an address over 126", where 127 is nobody: PS, the stranger, whose request was answered
 unfoldable pub misaddressed : ℕ → ℕ → ℕ → Bool
-misaddressed ps stranger source = pick (less 126 ps) true (pick (less 127 stranger) true (pick (less 127 source) true false))
+misaddressed ps stranger source =
+    pick (less 126 ps) true (pick (less 127 stranger) true (pick (less 127 source) true false))
 
 -- "counts above its rows", "a remembered reply over 255 octets"
 unfoldable pub overcounted : Queue → Queue → ℕ → Bool
@@ -103,7 +104,8 @@ refusalIn out highUpdate lowUpdate c masters started k high low =
 
 unfoldable pub refusal : ℕ → ℕ → ℕ → World → ℕ
 refusal out high low w =
-    refusalIn out high low (w .site .core) (w .site .masters) (w .started) (w .memory .kept) (w .site .high) (w .site .low)
+    refusalIn out high low (w .site .core) (w .site .masters) (w .started) (w .memory .kept) (w .site .high)
+    (w .site .low)
 
 -- ---- what is known where nothing is refused
 -- of the core

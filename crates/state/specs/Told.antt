@@ -66,19 +66,45 @@ untold =
 -- an event adds to what is told
 unfoldable pub adds : Event → Telling → Telling
 adds (accepted p n) t =
-    record { refused = t .refused; octets = t .octets; wait = t .wait; indication = t .indication; place = n; entry = t .entry }
+    record {
+      refused = t .refused;
+      octets = t .octets;
+      wait = t .wait;
+      indication = t .indication;
+      place = n;
+      entry = t
+          .entry;
+    }
 adds begins t = t
 adds ends t = t
 adds (sends x o n) t =
-    record { refused = t .refused; octets = o; wait = n; indication = t .indication; place = t .place; entry = t .entry }
+    record
+    { refused = t .refused; octets = o; wait = n; indication = t .indication; place = t .place; entry = t .entry }
 adds (confirmed p n s k) t = t
 adds (collected p n r) t =
-    record { refused = t .refused; octets = t .octets; wait = t .wait; indication = t .indication; place = n; entry = r }
+    record
+    { refused = t .refused; octets = t .octets; wait = t .wait; indication = t .indication; place = n; entry = r }
 adds (indicated h p) t =
-    record { refused = t .refused; octets = t .octets; wait = t .wait; indication = Shown h p; place = t .place; entry = t .entry }
+    record {
+      refused = t .refused;
+      octets = t .octets;
+      wait = t .wait;
+      indication = Shown h p;
+      place = t .place;
+      entry = t
+          .entry;
+    }
 adds resets t = t
 adds (refused n) t =
-    record { refused = n; octets = t .octets; wait = t .wait; indication = t .indication; place = t .place; entry = t .entry }
+    record {
+      refused = n;
+      octets = t .octets;
+      wait = t .wait;
+      indication = t .indication;
+      place = t .place;
+      entry = t
+          .entry;
+    }
 
 unfoldable pub telling : List Event → Telling
 telling [] = untold
@@ -93,13 +119,15 @@ pub record Sends (c : Core) (e : List Event) (out : List ℕ) (r : Moved) (out�
   pub laid : Lays out 0 (telling e .octets) 255 (r .length) out′
 
 -- of an act, with the masters, the marks and the rows that it leaves
-pub record Does (d : Done) (out : List ℕ) (r : Moved) (masters marks : List ℕ) (high low : Rows) (out′ : List ℕ) : Type 0 where
+pub record Does (d : Done) (out : List ℕ) (r : Moved) (masters marks : List ℕ) (high low : Rows) (out′ : List ℕ) :
+    Type 0 where
   pub site : siteOf (r .core) masters marks high low ≡ d .site
   pub wait : r .wait .0 ≡ telling (d .events) .wait
   pub laid : Lays out 0 (telling (d .events) .octets) 255 (r .length) out′
 
 -- of a confirmation, which leaves the masters alone
-pub record Closes (o : Outcome) (x : List ℕ) (c : Core) (marks : List ℕ) (high low : Rows) (c′ : Core) (marks′ : List ℕ) (high′ low′ : Rows) : Type 0 where
+pub record Closes (o : Outcome) (x : List ℕ) (c : Core) (marks : List ℕ) (high low : Rows) (c′ : Core)
+    (marks′ : List ℕ) (high′ low′ : Rows) : Type 0 where
   pub site : (m : List ℕ) → siteOf c′ m marks′ high′ low′ ≡ close o x (siteOf c m marks high low) .site
 
 -- of slot expiry while the pass is checked, which leaves the marks and the rows alone
@@ -137,11 +165,28 @@ pub record Stands : Type 0 where
 
 abbrev pub stands : Heard → List ℕ → List ℕ → List ℕ → List ℕ → List ℕ → Rows → Rows → List ℕ → Stands
 stands a masters started marks points octets high low out =
-    record { answer = a; masters = masters; started = started; marks = marks; points = points; octets = octets; high = high; low = low; out = out }
+    record {
+      answer = a;
+      masters = masters;
+      started = started;
+      marks = marks;
+      points = points;
+      octets = octets;
+      high =
+          high;
+      low = low;
+      out = out;
+    }
 
 abbrev pub worldIn : Core → Kept → List ℕ → List ℕ → List ℕ → List ℕ → List ℕ → Rows → Rows → World
 worldIn c k masters started marks points octets high low =
-    record { site = siteOf c masters marks high low; started = started; points = points; memory = record { kept = k; octets = octets } }
+    record {
+      site = siteOf c masters marks high low;
+      started = started;
+      points = points;
+      memory = record
+          { kept = k; octets = octets };
+    }
 
 unfoldable pub heardOf : Called → Heard
 heardOf d =
@@ -156,7 +201,9 @@ heardOf d =
 
 unfoldable pub standing : Called → List ℕ → Stands
 standing d out =
-    stands (heardOf d) (d .world .site .masters) (d .world .started) (d .world .site .marks) (d .world .points) (d .world .memory .octets) (d .world .site .high) (d .world .site .low) (laid out 0 (telling (d .events) .octets))
+    stands (heardOf d) (d .world .site .masters) (d .world .started) (d .world .site .marks) (d .world .points)
+    (d .world .memory .octets) (d .world .site .high) (d .world .site .low)
+    (laid out 0 (telling (d .events) .octets))
 
 -- of frame, sent and slot
 unfoldable pub answerOf : Called → Answer
@@ -176,7 +223,8 @@ told d out =
 -- of reset, which has no output
 unfoldable pub resetOf : Called → Leaves Renewed
 resetOf d =
-    leaves (record { refused = telling (d .events) .refused; state = stateOf (d .world) }) (d .world .site .high) (d .world .site .low) []
+    leaves (record { refused = telling (d .events) .refused; state = stateOf (d .world) }) (d .world .site .high)
+    (d .world .site .low) []
 
 -- of start; a refused one leaves a blank state, whose settings are out of rule
 unfoldable pub blankSettings : Settings
@@ -194,7 +242,8 @@ blankSettings =
 unfoldable pub blank : State
 blank =
     stateOf
-    (freshWorld (freshCore blankSettings 0 (replicate 127 0) (emptyQueue 0) (emptyQueue 0)) (replicate 127 0) (replicate 64 0) (replicate 255 0) noRows noRows)
+    (freshWorld (freshCore blankSettings 0 (replicate 127 0) (emptyQueue 0) (emptyQueue 0)) (replicate 127 0)
+    (replicate 64 0) (replicate 255 0) noRows noRows)
 
 unfoldable pub startedOf : Started → Renewed
 startedOf (Unstarted n) = record { refused = n; state = blank }

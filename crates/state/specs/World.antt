@@ -209,4 +209,12 @@ stateOf w =
 
 unfoldable pub stateWith : Core → State → State
 stateWith c s =
-    record { core = c; masters = s .masters; started = s .started; marks = s .marks; points = s .points; memory = s .memory }
+    record {
+      core = c;
+      masters = s .masters;
+      started = s .started;
+      marks = s .marks;
+      points = s .points;
+      memory = s
+          .memory;
+    }
