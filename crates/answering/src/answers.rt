@@ -3,7 +3,6 @@ ghost use mathlib.Core.Path.{_≡_};
 ghost use Prim.Native.Nat.{_≤_};
 ghost use lib.ListN.{length};
 ghost use Rattle.choice.specs.Choice.{pick};
-ghost use Rattle.times.specs.Times.{Small};
 ghost use Rattle.state.specs.Answering.{Readable, statusEvents, sdnEvents};
 ghost use Rattle.state.specs.Answering.{asks as Answering·asks};
 ghost use Rattle.state.specs.Told.{telling, Says};
@@ -15,12 +14,11 @@ use control::Service;
 use frame::Head;
 use frame::Part;
 use state::Asks;
-use state::Core;
 use state::Given;
 use state::Indication;
 use state::Kept;
+use state::Responder;
 use state::Spoken;
-use times::Sending;
 
 // What a request's service asks.
 pub fn asks(s: Service) -> Asks
@@ -62,17 +60,16 @@ pub fn silent(kept: Kept, indication: Indication) -> Spoken
 }
 
 // Answers FDL status.
-pub fn answer_status(c: Core, k: Kept, h: Head, out: &mut [u8]) -> Spoken
-    requires { ⌜ (Small (c .settings)) × ((c .ts .0 ≤ 126) × ((Readable h) × (255 ≤ length (now out)))) ⌝ }
-    ensures { λ r. ⌜ Says k (statusEvents c h) (now (out .entry)) r (now (out .exit)) ⌝ }
+pub fn answer_status(responder: Responder, k: Kept, h: Head, out: &mut [u8]) -> Spoken
+    requires { ⌜ (responder .ts .0 ≤ 126) × ((Readable h) × (255 ≤ length (now out))) ⌝ }
+    ensures { λ r. ⌜ Says k (statusEvents responder h) (now (out .entry)) r (now (out .exit)) ⌝ }
 {
     let to = h.to;
-    let ts = c.ts;
     if news::reserved(to) {
         return silent(k, Indication::None);
     }
-    let length = reply::lay_reply(ts, h, Given::Coded(Code::Ok), b"", out);
-    let wait = acts::wait_for(c, Sending::Reply);
+    let length = reply::lay_reply(responder, h, Given::Coded(Code::Ok), b"", out);
+    let wait = responder.wait;
     Spoken {
         kept: k,
         length,

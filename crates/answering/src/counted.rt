@@ -4,7 +4,6 @@ ghost use mathlib.Core.Path.{_≡_};
 ghost use Prim.Native.Nat.{_≤_};
 ghost use mathlib.Core.List.{[], _∷_};
 ghost use lib.ListN.{length};
-ghost use Rattle.times.specs.Times.{Small};
 ghost use Rattle.state.specs.Answering.{Answerable, Asked, memory, replies, recalled, answerNew, answerCounted};
 ghost use Rattle.state.specs.Told.{Says};
 use super::answers;
@@ -13,16 +12,15 @@ use super::news;
 use super::reply;
 use frame::Head;
 use frame::Part;
-use state::Core;
 use state::Indication;
 use state::Kept;
 use state::New;
+use state::Responder;
 use state::Spoken;
-use times::Sending;
 
 // Answers a new SDA or SRD.
 fn answer_new(
-    c: Core,
+    responder: Responder,
     k: Kept,
     octets: &mut [u8; 255],
     n: New,
@@ -33,20 +31,20 @@ fn answer_new(
     p: Part,
     out: &mut [u8],
 ) -> Spoken
-    requires { ⌜ (Small (c .settings))
-        × ((c .ts .0 ≤ 126) × ((Answerable h) × ((length (now x) ≤ 244) × (255 ≤ length (now out))))) ⌝ }
-    ensures { λ r. ⌜ Says (answerNew c (memory k (now (octets .entry))) n fcb fcv (now (x .entry)) h p .memory .kept)
-        (answerNew c (memory k (now (octets .entry))) n fcb fcv (now (x .entry)) h p .events) (now (out .entry)) r
-        (now (out .exit)) ⌝ }
+    requires { ⌜ (responder .ts .0 ≤ 126)
+        × ((Answerable h) × ((length (now x) ≤ 244) × (255 ≤ length (now out)))) ⌝ }
+    ensures { λ r. ⌜ Says
+        (answerNew responder (memory k (now (octets .entry))) n fcb fcv (now (x .entry)) h p .memory .kept)
+        (answerNew responder (memory k (now (octets .entry))) n fcb fcv (now (x .entry)) h p .events)
+        (now (out .entry)) r (now (out .exit)) ⌝ }
     ensures { λ _. ⌜ now (octets .exit)
-        ≡ answerNew c (memory k (now (octets .entry))) n fcb fcv (now (x .entry)) h p .memory .octets ⌝ }
+        ≡ answerNew responder (memory k (now (octets .entry))) n fcb fcv (now (x .entry)) h p .memory .octets ⌝ }
 {
-    let ts = c.ts;
     let source = h.source;
     let given = n.given;
-    let length = reply::lay_reply(ts, h, given, x, out);
+    let length = reply::lay_reply(responder, h, given, x, out);
     memory::remember(octets, fcb, fcv, length, out);
-    let wait = acts::wait_for(c, Sending::Reply);
+    let wait = responder.wait;
     Spoken {
         kept: memory::kept_of(k, source, fcb, fcv, length),
         length,
@@ -56,14 +54,14 @@ fn answer_new(
 }
 
 // Answers a request again, with the remembered reply.
-fn answer_again(c: Core, k: Kept, octets: &[u8; 255], out: &mut [u8]) -> Spoken
-    requires { ⌜ (Small (c .settings)) × ((k .length ≤ 255) × (255 ≤ length (now out))) ⌝ }
-    ensures { λ r. ⌜ Says k (replies c (recalled (memory k (now (octets .entry)))) ∷ []) (now (out .entry)) r
+fn answer_again(responder: Responder, k: Kept, octets: &[u8; 255], out: &mut [u8]) -> Spoken
+    requires { ⌜ (k .length ≤ 255) × (255 ≤ length (now out)) ⌝ }
+    ensures { λ r. ⌜ Says k (replies responder (recalled (memory k (now (octets .entry)))) ∷ []) (now (out .entry)) r
         (now (out .exit)) ⌝ }
 {
     let n = k.length;
     let length = memory::recall(octets, n as usize, out);
-    let wait = acts::wait_for(c, Sending::Reply);
+    let wait = responder.wait;
     Spoken {
         kept: k,
         length,
@@ -74,7 +72,7 @@ fn answer_again(c: Core, k: Kept, octets: &[u8; 255], out: &mut [u8]) -> Spoken
 
 // Answers a counted request: an SDA, or an SRD.
 pub fn answer_counted<'a>(
-    c: Core,
+    responder: Responder,
     points: &[u8; 64],
     k: Kept,
     octets: &mut [u8; 255],
@@ -88,15 +86,15 @@ pub fn answer_counted<'a>(
     p: Part,
     out: &mut [u8],
 ) -> Spoken
-    requires { ⌜ Asked c k h (now high) (now low) (now out) ⌝ }
+    requires { ⌜ Asked responder k h (now high) (now low) (now out) ⌝ }
     ensures { λ r. ⌜ Says
-        (answerCounted c (now (points .entry)) (memory k (now (octets .entry))) sda fcb fcv room (now (high .entry))
-        (now (low .entry)) h p .memory .kept)
-        (answerCounted c (now (points .entry)) (memory k (now (octets .entry))) sda fcb fcv room (now (high .entry))
-        (now (low .entry)) h p .events) (now (out .entry)) r (now (out .exit)) ⌝ }
+        (answerCounted responder (now (points .entry)) (memory k (now (octets .entry))) sda fcb fcv room
+        (now (high .entry)) (now (low .entry)) h p .memory .kept)
+        (answerCounted responder (now (points .entry)) (memory k (now (octets .entry))) sda fcb fcv room
+        (now (high .entry)) (now (low .entry)) h p .events) (now (out .entry)) r (now (out .exit)) ⌝ }
     ensures { λ _. ⌜ now (octets .exit)
-        ≡ answerCounted c (now (points .entry)) (memory k (now (octets .entry))) sda fcb fcv room (now (high .entry))
-        (now (low .entry)) h p .memory .octets ⌝ }
+        ≡ answerCounted responder (now (points .entry)) (memory k (now (octets .entry))) sda fcb fcv room
+        (now (high .entry)) (now (low .entry)) h p .memory .octets ⌝ }
 {
     let to = h.to;
     let source = h.source;
@@ -104,8 +102,19 @@ pub fn answer_counted<'a>(
         return answers::silent(k, Indication::None);
     }
     if memory::repeated(k, source, fcb, fcv) {
-        return answer_again(c, k, octets, out);
+        return answer_again(responder, k, octets, out);
     }
     let n = news::new_answer(news::active(points, to), sda, room, high.len(), low.len());
-    answer_new(c, k, octets, n, fcb, fcv, news::shown(high, low), h, p, out)
+    answer_new(
+        responder,
+        k,
+        octets,
+        n,
+        fcb,
+        fcv,
+        news::shown(high, low),
+        h,
+        p,
+        out,
+    )
 }

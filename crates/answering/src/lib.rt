@@ -1,4 +1,4 @@
-// The answering side: what is answered to a request in Idle, by its address and its service. It touches no queue and no
+// The answering side: what a responder answers to a request, by its address and its service. It touches no queue and no
 // token. Assumes nothing.
 ghost use mathlib.Core.Path.{_≡_};
 ghost use Rattle.choice.specs.Choice.{same, either};
@@ -16,16 +16,16 @@ use control::Control;
 use frame::Head;
 use frame::Part;
 use state::Asks;
-use state::Core;
 use state::Indication;
 use state::Kept;
+use state::Responder;
 use state::Spoken;
 
 fn answer_as<'a>(
     a: Asks,
     fcb: bool,
     fcv: bool,
-    c: Core,
+    responder: Responder,
     points: &[u8; 64],
     k: Kept,
     octets: &mut [u8; 255],
@@ -36,14 +36,14 @@ fn answer_as<'a>(
     p: Part,
     out: &mut [u8],
 ) -> Spoken
-    requires { ⌜ Asked c k h (now high) (now low) (now out) ⌝ }
+    requires { ⌜ Asked responder k h (now high) (now low) (now out) ⌝ }
     ensures { λ r. ⌜ Says
-        (answerAs a c (now (points .entry)) (memory k (now (octets .entry))) fcb fcv room (now (high .entry))
+        (answerAs a responder (now (points .entry)) (memory k (now (octets .entry))) fcb fcv room (now (high .entry))
         (now (low .entry)) h p .memory .kept)
-        (answerAs a c (now (points .entry)) (memory k (now (octets .entry))) fcb fcv room (now (high .entry))
+        (answerAs a responder (now (points .entry)) (memory k (now (octets .entry))) fcb fcv room (now (high .entry))
         (now (low .entry)) h p .events) (now (out .entry)) r (now (out .exit)) ⌝ }
     ensures { λ _. ⌜ now (octets .exit)
-        ≡ answerAs a c (now (points .entry)) (memory k (now (octets .entry))) fcb fcv room (now (high .entry))
+        ≡ answerAs a responder (now (points .entry)) (memory k (now (octets .entry))) fcb fcv room (now (high .entry))
         (now (low .entry)) h p .memory .octets ⌝ }
 {
     let sda;
@@ -58,14 +58,14 @@ fn answer_as<'a>(
             return answers::answer_sdn(points, k, room, h, p);
         }
         Asks::Status => {
-            return answers::answer_status(c, k, h, out);
+            return answers::answer_status(responder, k, h, out);
         }
         Asks::Never => {
             return answers::silent(k, Indication::None);
         }
     }
     counted::answer_counted(
-        c,
+        responder,
         points,
         k,
         octets,
@@ -83,7 +83,7 @@ fn answer_as<'a>(
 
 fn answer_to<'a>(
     control: Control,
-    c: Core,
+    responder: Responder,
     points: &[u8; 64],
     k: Kept,
     octets: &mut [u8; 255],
@@ -94,14 +94,14 @@ fn answer_to<'a>(
     p: Part,
     out: &mut [u8],
 ) -> Spoken
-    requires { ⌜ Asked c k h (now high) (now low) (now out) ⌝ }
+    requires { ⌜ Asked responder k h (now high) (now low) (now out) ⌝ }
     ensures { λ r. ⌜ Says
-        (answerTo control c (now (points .entry)) (memory k (now (octets .entry))) room (now (high .entry))
+        (answerTo control responder (now (points .entry)) (memory k (now (octets .entry))) room (now (high .entry))
         (now (low .entry)) h p .memory .kept)
-        (answerTo control c (now (points .entry)) (memory k (now (octets .entry))) room (now (high .entry))
+        (answerTo control responder (now (points .entry)) (memory k (now (octets .entry))) room (now (high .entry))
         (now (low .entry)) h p .events) (now (out .entry)) r (now (out .exit)) ⌝ }
     ensures { λ _. ⌜ now (octets .exit)
-        ≡ answerTo control c (now (points .entry)) (memory k (now (octets .entry))) room (now (high .entry))
+        ≡ answerTo control responder (now (points .entry)) (memory k (now (octets .entry))) room (now (high .entry))
         (now (low .entry)) h p .memory .octets ⌝ }
 {
     match control {
@@ -110,7 +110,7 @@ fn answer_to<'a>(
                 answers::asks(service),
                 fcb,
                 fcv,
-                c,
+                responder,
                 points,
                 k,
                 octets,
@@ -141,7 +141,7 @@ fn ours(destination: u8, ts: u8) -> bool
 
 // Answers a request to TS or to all.
 pub fn answer<'a>(
-    c: Core,
+    responder: Responder,
     points: &[u8; 64],
     k: Kept,
     octets: &mut [u8; 255],
@@ -152,21 +152,33 @@ pub fn answer<'a>(
     p: Part,
     out: &mut [u8],
 ) -> Spoken
-    requires { ⌜ Asked c k h (now high) (now low) (now out) ⌝ }
+    requires { ⌜ Asked responder k h (now high) (now low) (now out) ⌝ }
     ensures { λ r. ⌜ Says
-        (Answering·answer c (now (points .entry)) (memory k (now (octets .entry))) room (now (high .entry))
+        (Answering·answer responder (now (points .entry)) (memory k (now (octets .entry))) room (now (high .entry))
         (now (low .entry)) h p .memory .kept)
-        (Answering·answer c (now (points .entry)) (memory k (now (octets .entry))) room (now (high .entry))
+        (Answering·answer responder (now (points .entry)) (memory k (now (octets .entry))) room (now (high .entry))
         (now (low .entry)) h p .events) (now (out .entry)) r (now (out .exit)) ⌝ }
     ensures { λ _. ⌜ now (octets .exit)
-        ≡ Answering·answer c (now (points .entry)) (memory k (now (octets .entry))) room (now (high .entry))
+        ≡ Answering·answer responder (now (points .entry)) (memory k (now (octets .entry))) room (now (high .entry))
         (now (low .entry)) h p .memory .octets ⌝ }
 {
     let control = h.control;
     let destination = h.destination;
-    let ts = c.ts;
+    let ts = responder.ts;
     if ours(destination.0, ts.0) {
-        return answer_to(control, c, points, k, octets, room, high, low, h, p, out);
+        return answer_to(
+            control,
+            responder,
+            points,
+            k,
+            octets,
+            room,
+            high,
+            low,
+            h,
+            p,
+            out,
+        );
     }
     answers::silent(k, Indication::None)
 }

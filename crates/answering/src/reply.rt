@@ -9,29 +9,27 @@ ghost use Rattle.state.specs.Answering.{Answerable, replyOctets};
 ghost use Rattle.state.specs.Answering.{replyHead as Answering·replyHead, carries as Answering·carries};
 use control::Code;
 use control::Control;
-use control::Kind;
-use frame::Address;
 use frame::Fields;
 use frame::Head;
 use frame::Written;
 use state::Given;
+use state::Responder;
 
-// The fields of a reply to a request: its sender and access points swapped.
-fn reply_head(ts: Address, h: Head, code: Code) -> Head
-    ensures { λ r. ⌜ r ≡ Answering·replyHead ts h code ⌝ }
+// The fields of a reply to a request: its sender and access points swapped, and the responder's type.
+fn reply_head(responder: Responder, h: Head, code: Code) -> Head
+    ensures { λ r. ⌜ r ≡ Answering·replyHead responder h code ⌝ }
 {
     let destination = h.source;
     let to = h.from;
+    let source = responder.ts;
     let from = h.to;
+    let kind = responder.kind;
     Head {
         destination,
         to,
-        source: ts,
+        source,
         from,
-        control: Control::Reply {
-            kind: Kind::InRing,
-            code,
-        },
+        control: Control::Reply { kind, code },
     }
 }
 
@@ -53,12 +51,13 @@ fn carries(k: Code) -> bool
 }
 
 // Lays a reply with a code and its data.
-fn lay_coded(ts: Address, h: Head, code: Code, data: &[u8], out: &mut [u8]) -> usize
-    requires { ⌜ (ts .0 ≤ 126) × ((Answerable h) × ((length (now «data») ≤ 244) × (255 ≤ length (now out)))) ⌝ }
+fn lay_coded(responder: Responder, h: Head, code: Code, data: &[u8], out: &mut [u8]) -> usize
+    requires { ⌜ (responder .ts .0 ≤ 126)
+        × ((Answerable h) × ((length (now «data») ≤ 244) × (255 ≤ length (now out)))) ⌝ }
     ensures { λ n. ⌜ Lays (now (out .entry)) 0
-        (octets (Fields.Frame (Answering·replyHead ts h code)) (now («data» .entry))) 255 n (now (out .exit)) ⌝ }
+        (octets (Fields.Frame (Answering·replyHead responder h code)) (now («data» .entry))) 255 n (now (out .exit)) ⌝ }
 {
-    match write::write_frame(reply_head(ts, h, code), data, out) {
+    match write::write_frame(reply_head(responder, h, code), data, out) {
         Written::Refused(_) => 0,
         Written::Count(n) => n,
     }
@@ -74,24 +73,26 @@ fn lay_short(out: &mut [u8]) -> usize
     }
 }
 
-fn lay_given(ts: Address, h: Head, code: Code, x: &[u8], out: &mut [u8]) -> usize
-    requires { ⌜ (ts .0 ≤ 126) × ((Answerable h) × ((length (now x) ≤ 244) × (255 ≤ length (now out)))) ⌝ }
-    ensures { λ n. ⌜ Lays (now (out .entry)) 0 (replyOctets ts h (Given.Coded code) (now (x .entry))) 255 n
+fn lay_given(responder: Responder, h: Head, code: Code, x: &[u8], out: &mut [u8]) -> usize
+    requires { ⌜ (responder .ts .0 ≤ 126)
+        × ((Answerable h) × ((length (now x) ≤ 244) × (255 ≤ length (now out)))) ⌝ }
+    ensures { λ n. ⌜ Lays (now (out .entry)) 0 (replyOctets responder h (Given.Coded code) (now (x .entry))) 255 n
         (now (out .exit)) ⌝ }
 {
     if carries(code) {
-        return lay_coded(ts, h, code, x, out);
+        return lay_coded(responder, h, code, x, out);
     }
-    lay_coded(ts, h, code, b"", out)
+    lay_coded(responder, h, code, b"", out)
 }
 
 // Lays what is given to a request, and gives its count of octets.
-pub fn lay_reply(ts: Address, h: Head, g: Given, x: &[u8], out: &mut [u8]) -> usize
-    requires { ⌜ (ts .0 ≤ 126) × ((Answerable h) × ((length (now x) ≤ 244) × (255 ≤ length (now out)))) ⌝ }
-    ensures { λ n. ⌜ Lays (now (out .entry)) 0 (replyOctets ts h g (now (x .entry))) 255 n (now (out .exit)) ⌝ }
+pub fn lay_reply(responder: Responder, h: Head, g: Given, x: &[u8], out: &mut [u8]) -> usize
+    requires { ⌜ (responder .ts .0 ≤ 126)
+        × ((Answerable h) × ((length (now x) ≤ 244) × (255 ≤ length (now out)))) ⌝ }
+    ensures { λ n. ⌜ Lays (now (out .entry)) 0 (replyOctets responder h g (now (x .entry))) 255 n (now (out .exit)) ⌝ }
 {
     match g {
         Given::Acknowledged => lay_short(out),
-        Given::Coded(code) => lay_given(ts, h, code, x, out),
+        Given::Coded(code) => lay_given(responder, h, code, x, out),
     }
 }

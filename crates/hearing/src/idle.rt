@@ -1,10 +1,12 @@
 // What a frame does in Idle: a token is taken, a request is answered, and anything else is ignored. Assumes nothing.
 ghost use mathlib.Core.Path.{_≡_};
 ghost use Rattle.frame.specs.Reading.{read as Reading·read};
+ghost use Rattle.times.specs.Times.{Small};
 ghost use Rattle.state.specs.World.{rows};
-ghost use Rattle.state.specs.Calls.{idle as Calls·idle, idleRead};
+ghost use Rattle.state.specs.Calls.{responder as Calls·responder, idle as Calls·idle, idleRead};
 ghost use Rattle.hearing.specs.Hears.{Hears, Listening, Sound};
 use clock::BitTime;
+use control::Kind;
 use frame::Answer;
 use frame::Fields;
 use frame::Part;
@@ -13,7 +15,9 @@ use state::Heard;
 use state::Indication;
 use state::Kept;
 use state::Moved;
+use state::Responder;
 use state::Spoken;
+use times::Sending;
 
 // What an act on the site leaves, as what was heard.
 pub fn moved(m: Moved, kept: Kept) -> Heard
@@ -63,6 +67,20 @@ fn spoken(core: Core, s: Spoken) -> Heard
         length: s.length,
         wait,
         indication,
+    }
+}
+
+// What this master answers as: TS, a station in the ring, after min TSDR.
+fn responder(c: Core) -> Responder
+    requires { ⌜ Small (c .settings) ⌝ }
+    ensures { λ r. ⌜ r ≡ Calls·responder c ⌝ }
+{
+    let ts = c.ts;
+    let wait = acts::wait_for(c, Sending::Reply);
+    Responder {
+        ts,
+        kind: Kind::InRing,
+        wait,
     }
 }
 
@@ -117,10 +135,11 @@ fn idle<'a>(
             moved(m, k)
         }
         Fields::Short => moved(tokens::quiet(c), k),
-        Fields::Frame(h) => spoken(
-            c,
-            answering::answer(c, points, k, octets, room, first, second, h, p, out),
-        ),
+        Fields::Frame(h) => {
+            let r = responder(c);
+            let s = answering::answer(r, points, k, octets, room, first, second, h, p, out);
+            spoken(c, s)
+        }
     }
 }
 

@@ -31,7 +31,7 @@ use Rattle.state.specs.Request.{UNKNOWN, octetsIn, afterLast, waitFor, s
 use Rattle.state.specs.Pass.{ns, tokenTo, passCore, without}
 use Rattle.state.specs.Hold.{choice, rest, beginning, admit}
 use Rattle.state.specs.Answering as A
-use Rattle.state.specs.Calls.{countOf, freshCore}
+use Rattle.state.specs.Calls.{responder, countOf, freshCore}
 use Rattle.state.proofs.Phases.{flight}
 
 -- where a call stands between two of them
@@ -145,7 +145,7 @@ pub data Act (k : Type 0) : Point → Site → Event → Point → Site → Type
   hands : (y : Priority) (s : Site) → 0 < queueOf y (s .core) .confirmed
       → Act k calm s (collected y (queueOf y (s .core) .first) (at (rowsOf y s .row) (queueOf y (s .core) .first)))
       calm (freedOf y s)
-  replies : (o : List ℕ) (s : Site) → Act k calm s (A.replies (s .core) o) calm s
+  replies : (o : List ℕ) (s : Site) → Act k calm s (A.replies (responder (s .core)) o) calm s
   shows : k → (h : Head) (d : Part) (s : Site) → Act k calm s (indicated h d) calm s
   restarts : (s : Site) → Act k calm s resets halting s
   breaks : (s : Site) → flight (s .core .doing .phase) ≡ true

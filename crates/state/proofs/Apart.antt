@@ -12,7 +12,7 @@ use Rattle.frame.specs.declared.Fields.the-variants.{Frame}
 use Rattle.frame.specs.declared.Head.{Head}
 use Rattle.frame.specs.declared.Part.{Part}
 use Rattle.request.specs.declared.Record.{Record}
-use Rattle.state.specs.declared.Core.{Core}
+use Rattle.state.specs.declared.Responder.{Responder}
 use Rattle.state.specs.declared.Memory.{Memory}
 use Rattle.state.specs.declared.Verdict.{Verdict}
 use Rattle.state.specs.declared.Verdict.the-variants.{Plausible, Vain, Foreign}
@@ -69,10 +69,10 @@ unfolding judged
 lifts-apart ts r h n s e = apart ts r h n s (h .control) e
 
 -- ---- "repeats the remembered reply's octets, with no indication"
-module _ (c : Core) (points : List ℕ) (m : Memory) (isSda fcb fcv room : Bool) (high low : List ℕ) (h : Head)
+module _ (r : Responder) (points : List ℕ) (m : Memory) (isSda fcb fcv room : Bool) (high low : List ℕ) (h : Head)
     (p : Part) where
   pub repeat-silent : reserved (h .to) ≡ false → repeated (m .kept) (h .source .0) fcb fcv ≡ true
-      → answerCounted c points m isSda fcb fcv room high low h p ≡ answered m (replies c (recalled m) ∷ [])
+      → answerCounted r points m isSda fcb fcv room high low h p ≡ answered m (replies r (recalled m) ∷ [])
   unfolding answerCounted
   repeat-silent f e =
       rw (

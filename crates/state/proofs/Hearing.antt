@@ -29,11 +29,11 @@ use Rattle.frame_laws.proofs.Theorems.{read-writable}
 use Rattle.request.specs.declared.Record.{Record}
 use Rattle.request.specs.Record.{NA, named}
 use Rattle.queue.specs.Queue.{AREA}
-use Rattle.state.specs.declared.Core.{Core}
 use Rattle.state.specs.declared.Memory.{Memory}
 use Rattle.state.specs.declared.New.{New}
 use Rattle.state.specs.declared.Given.{Given}
 use Rattle.state.specs.declared.Given.the-variants.{Acknowledged, Coded}
+use Rattle.state.specs.declared.Responder.{Responder}
 use Rattle.state.specs.declared.Asks.{Asks}
 use Rattle.state.specs.declared.Asks.the-variants.{Sda, Srd, Sdn, Status, Never}
 use Rattle.state.specs.declared.Verdict.{Verdict}
@@ -166,13 +166,14 @@ length-body h x = simp length-append (omega (arith, length-extension (h .to), le
 carried-short : (b : Bool) (x : List ℕ) → length x ≤ 244 → length (pick b x []) ≤ 244
 carried-short b x h = by (λ (l : List ℕ). length l ≤ 244) _ _ _ (λ e. h) (λ e. omega arith)
 
-reply-short : (ts : Address) (h : Head) (g : Given) (x : List ℕ) → length x ≤ 244 → length (replyOctets ts h g x) ≤ 255
+reply-short : (r : Responder) (h : Head) (g : Given) (x : List ℕ) → length x ≤ 244
+    → length (replyOctets r h g x) ≤ 255
 unfolding replyOctets octets
-reply-short ts h Acknowledged x l = omega arith
-reply-short ts h (Coded k) x l =
+reply-short r h Acknowledged x l = omega arith
+reply-short r h (Coded k) x l =
     let a = carried-short (A.carries k) x l in
-    let b = length-body (replyHead ts h k) (pick (A.carries k) x []) in
-    let c = length-framed (body (replyHead ts h k) (pick (A.carries k) x [])) in
+    let b = length-body (replyHead r h k) (pick (A.carries k) x []) in
+    let c = length-framed (body (replyHead r h k) (pick (A.carries k) x [])) in
     omega arith
 
 shown-short : (high low : List ℕ) → length high ≤ 244 → length low ≤ 244 → length (A.shown high low) ≤ 244
@@ -192,21 +193,21 @@ minds-remembered : (m : Memory) (a : Address) (fcb fcv : Bool) (x : List ℕ) �
 unfolding remembered
 minds-remembered m a fcb fcv x h l z = by Memorable _ _ _ (λ e. record { source = omega arith; reply = l }) (λ e. z)
 
-module _ (c : Core) (points : List ℕ) (m : Memory) (room : Bool) (high low : List ℕ) (h : Head) (d : Part)
+module _ (r : Responder) (points : List ℕ) (m : Memory) (room : Bool) (high low : List ℕ) (h : Head) (d : Part)
     (z : Memorable m) (s : h .source .0 ≤ 126) (u : length high ≤ 244) (l : length low ≤ 244) where
-  minds-new : (n : New) (fcb fcv : Bool) → Minds (answerNew c m n fcb fcv (A.shown high low) h d)
+  minds-new : (n : New) (fcb fcv : Bool) → Minds (answerNew r m n fcb fcv (A.shown high low) h d)
   unfolding answerNew
   minds-new n fcb fcv =
       minds-answered _ _
       (minds-remembered m (h .source) fcb fcv _ s (reply-short _ h (n .given) _ (shown-short high low u l)) z)
 
-  minds-counted : (isSda fcb fcv : Bool) → Minds (answerCounted c points m isSda fcb fcv room high low h d)
+  minds-counted : (isSda fcb fcv : Bool) → Minds (answerCounted r points m isSda fcb fcv room high low h d)
   unfolding answerCounted
   minds-counted isSda fcb fcv =
       by Minds _ _ _ (λ e. minds-answered m _ z)
       (λ e. by Minds _ _ _ (λ e. minds-answered m _ z) (λ e. minds-new _ fcb fcv))
 
-  minds-as : (a : Asks) (fcb fcv : Bool) → Minds (answerAs a c points m fcb fcv room high low h d)
+  minds-as : (a : Asks) (fcb fcv : Bool) → Minds (answerAs a r points m fcb fcv room high low h d)
   unfolding answerAs
   minds-as Sda fcb fcv = minds-counted true fcb fcv
   minds-as Srd fcb fcv = minds-counted false fcb fcv
@@ -214,12 +215,12 @@ module _ (c : Core) (points : List ℕ) (m : Memory) (room : Bool) (high low : L
   minds-as Status fcb fcv = minds-answered m _ z
   minds-as Never fcb fcv = minds-answered m _ z
 
-  minds-to : (k : Control) → Minds (answerTo k c points m room high low h d)
+  minds-to : (k : Control) → Minds (answerTo k r points m room high low h d)
   unfolding answerTo
   minds-to (Request a fcb fcv) = minds-as _ fcb fcv
   minds-to (Reply k code) = minds-answered m _ z
 
-  pub minds-answer : Minds (answer c points m room high low h d)
+  pub minds-answer : Minds (answer r points m room high low h d)
   unfolding answer
   minds-answer = by Minds _ _ _ (λ e. minds-to _) (λ e. by Minds _ _ _ (λ e. minds-to _) (λ e. minds-answered m _ z))
 

@@ -25,7 +25,7 @@ use Rattle.state.specs.Request.{headFor, recordIn, octetsIn, afterLast, 
 use Rattle.state.specs.Pass.{passing as passingOn, passCore, without}
 use Rattle.state.specs.Hold.{resting, rest, beginning, admit}
 use Rattle.state.specs.Answering as A
-use Rattle.state.specs.Calls.{freshCore}
+use Rattle.state.specs.Calls.{responder, freshCore}
 use Rattle.state.specs.Runs.{Call, run, Begun}
 use Rattle.state.specs.Counts.{controlIn, counts}
 use Rattle.state.specs.Waits.{sdnBy, sdnAfter, sdnLast, waitDue}
@@ -137,7 +137,7 @@ stands-moved (renews m n masters s h j k) b i = unmindful refl refl refl
 stands-acted : (t : Settings) (ts : ℕ) {p q : Point} {s s′ : Site} {e : Event} → Act Any p s e q s′ → (b : Bool)
     → Poised t ts p s → Stands p (s .core .doing) b → Meets t e b × Stands q (s′ .core .doing) (sdnAfter e b)
 unfolding Stands ofSendings Goes sdnAfter sdnBy sendCore passCore beginning closeOf done once resting withRows
-    withMarks withCore withQueue withDoing withHold withStranger flight checking awaiting A.replies waitFor
+    withMarks withCore withQueue withDoing withHold withStranger flight checking awaiting A.replies responder waitFor
 stands-acted t ts (opens clock s) b g i = (any, refl)
 stands-acted t ts (serves starts clock y s e) b g i = (
   wait-last t b (s .core) (g .firm .settings) i,

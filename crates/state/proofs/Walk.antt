@@ -45,7 +45,7 @@ use Rattle.state.specs.Hold.{concluded}
 use Rattle.state.specs.Answering.{Answered}
 use Rattle.state.specs.Refusals.{unstarted, lawless}
 use Rattle.state.specs.Calls as Calls
-use Rattle.state.specs.Calls.{called, replying, refuse, nothing, submitting, collecting, idle, idleRead}
+use Rattle.state.specs.Calls.{called, replying, refuse, nothing, submitting, collecting, responder, idle, idleRead}
 use Rattle.state.specs.Calls.{awaitedRead, heard, sentIn, slotIn, dismissed, dismissal, broken, countOf}
 use Rattle.state.specs.Calls.{drained, forgotten, freshWorld, resetting}
 use Rattle.state.specs.Runs.{Call, call}
@@ -165,7 +165,7 @@ module _ (k : Type 0) where
   goes-slot ToSelf clock s e = goes-still calm s
 
 -- ---- the answering side
-trail-answers : {l : List Event} (s : Site) → Answers (s .core) l → Trail Any calm s l calm s
+trail-answers : {l : List Event} (s : Site) → Answers (responder (s .core)) l → Trail Any calm s l calm s
 trail-answers s none = stop
 trail-answers s (replied o l a) = act (Acts.replies o s) (trail-answers s a)
 trail-answers s (shown h d l a) = act (Acts.shows any h d s) (trail-answers s a)
@@ -184,8 +184,8 @@ carried-called : (d : Done) (w : World) → Goes Any calm (w .site) calm d → C
 unfolding called withSite
 carried-called d w g = record { trail = g .trail; started = refl; memory = λ m. m }
 
-carried-replying : (a : Answered) (w : World) → Answering (w .site .core) a → (Memorable (w .memory) → Minds a)
-    → Carried w (replying a w)
+carried-replying : (a : Answered) (w : World) → Answering (responder (w .site .core)) a
+    → (Memorable (w .memory) → Minds a) → Carried w (replying a w)
 unfolding replying withMemory
 carried-replying a w t m =
     record { trail = trail-answers (w .site) (t .told); started = refl; memory = λ z. m z .memory }

@@ -1,4 +1,5 @@
--- Document 01, "Answering, Idle only, to TS or 127". Assumes nothing.
+-- Document 01, "Answering, Idle only, to TS or 127": by a responder, which is all that the answering side knows of its
+-- station. Assumes nothing.
 use Prim.Native.Nat.{ℕ, _≤_}
 use mathlib.Core.Path.{_≡_}
 use mathlib.Core.Bool.{Bool, true, false}
@@ -10,7 +11,6 @@ use Rattle.control.specs.declared.Service.the-variants.{SdaLow, SdnLow, SdaHigh
 use Rattle.control.specs.declared.Service.the-variants.{Ident, Lsap}
 use Rattle.control.specs.declared.Code.{Code}
 use Rattle.control.specs.declared.Code.the-variants.{Ok, Rr, Rs, Dl, Dh, Rdl, Rdh}
-use Rattle.control.specs.declared.Kind.the-variants.{InRing}
 use Rattle.control.specs.declared.Control.{Control}
 use Rattle.control.specs.declared.Control.the-variants.{Request, Reply}
 use Rattle.frame.specs.declared.Address.{Address}
@@ -21,9 +21,6 @@ use Rattle.frame.specs.declared.Part.{Part}
 use Rattle.frame.specs.declared.Fields.the-variants.{Short, Frame}
 use Rattle.frame.specs.Format.{octets, outside}
 use Rattle.laid.specs.Laid.{laid}
-use Rattle.times.specs.Times.{Small}
-use Rattle.times.specs.declared.Sending.the-variants.{Reply as ReplySending}
-use Rattle.state.specs.declared.Core.{Core}
 use Rattle.state.specs.declared.Kept.{Kept}
 use Rattle.state.specs.declared.Memory.{Memory}
 use Rattle.state.specs.declared.Asks.{Asks}
@@ -31,8 +28,8 @@ use Rattle.state.specs.declared.Asks.the-variants.{Sda, Srd, Sdn, Status
 use Rattle.state.specs.declared.Given.{Given}
 use Rattle.state.specs.declared.Given.the-variants.{Acknowledged, Coded}
 use Rattle.state.specs.declared.New.{New}
+use Rattle.state.specs.declared.Responder.{Responder}
 use Rattle.state.specs.World.{Event, aReply, sends, indicated}
-use Rattle.state.specs.Request.{waitFor}
 
 -- "the active access points (0..62 and "none")": 63 is never one
 unfoldable pub active : List ℕ → Access → Bool
@@ -69,9 +66,9 @@ newAnswer isActive isSda room high low =
     pick isActive (pick isSda (newSda room) (newSrd room high low)) (new (Coded Rs) false)
 
 -- ---- the reply's octets: "SAPs are swapped in replies except SC"
-unfoldable pub replyHead : Address → Head → Code → Head
-replyHead ts h k =
-    record { destination = h .source; to = h .from; source = ts; from = h .to; control = Reply InRing k }
+unfoldable pub replyHead : Responder → Head → Code → Head
+replyHead r h k =
+    record { destination = h .source; to = h .from; source = r .ts; from = h .to; control = Reply (r .kind) k }
 
 -- the data of a reply: the update shown with DH, DL, RDH and RDL, and none with the others
 unfoldable pub carries : Code → Bool
@@ -85,9 +82,9 @@ carries Dh = true
 carries Rdl = true
 carries Rdh = true
 
-unfoldable pub replyOctets : Address → Head → Given → List ℕ → List ℕ
-replyOctets ts h Acknowledged x = octets Short []
-replyOctets ts h (Coded k) x = octets (Frame (replyHead ts h k)) (pick (carries k) x [])
+unfoldable pub replyOctets : Responder → Head → Given → List ℕ → List ℕ
+replyOctets r h Acknowledged x = octets Short []
+replyOctets r h (Coded k) x = octets (Frame (replyHead r h k)) (pick (carries k) x [])
 
 -- ---- the memory
 -- "FCV 1 with the remembered SA and bit"
@@ -121,29 +118,30 @@ answered m e = record { memory = m; events = e }
 unfoldable pub shows : Bool → Head → Part → List Event
 shows i h p = pick i (indicated h p ∷ []) []
 
-unfoldable pub replies : Core → List ℕ → Event
-replies c o = sends aReply o (waitFor c ReplySending)
+-- a reply goes out after the responder's wait
+unfoldable pub replies : Responder → List ℕ → Event
+replies r o = sends aReply o (r .wait .0)
 
--- "FDL status: OK, type 3"
-unfoldable pub statusEvents : Core → Head → List Event
-statusEvents c h = pick (said (reserved (h .to))) [] (replies c (replyOctets (c .ts) h (Coded Ok) []) ∷ [])
+-- "FDL status: OK", with the responder's type
+unfoldable pub statusEvents : Responder → Head → List Event
+statusEvents r h = pick (said (reserved (h .to))) [] (replies r (replyOctets r h (Coded Ok) []) ∷ [])
 
 -- "SDN is indicated if active and there is room"
 unfoldable pub sdnEvents : List ℕ → Bool → Head → Part → List Event
 sdnEvents points room h p = shows (pick (said (active points (h .to))) room false) h p
 
 -- SDA and SRD
-unfoldable pub answerNew : Core → Memory → New → Bool → Bool → List ℕ → Head → Part → Answered
-answerNew c m n fcb fcv x h p =
-    let o : List ℕ = replyOctets (c .ts) h (n .given) x in
-    answered (remembered m (h .source) fcb fcv o) (replies c o ∷ shows (n .indicated) h p)
+unfoldable pub answerNew : Responder → Memory → New → Bool → Bool → List ℕ → Head → Part → Answered
+answerNew r m n fcb fcv x h p =
+    let o : List ℕ = replyOctets r h (n .given) x in
+    answered (remembered m (h .source) fcb fcv o) (replies r o ∷ shows (n .indicated) h p)
 
-unfoldable pub answerCounted : Core → List ℕ → Memory → Bool → Bool → Bool → Bool → List ℕ → List ℕ → Head → Part
+unfoldable pub answerCounted : Responder → List ℕ → Memory → Bool → Bool → Bool → Bool → List ℕ → List ℕ → Head → Part
     → Answered
-answerCounted c points m isSda fcb fcv room high low h p =
+answerCounted r points m isSda fcb fcv room high low h p =
     pick (said (reserved (h .to))) (answered m [])
-    (pick (said (repeated (m .kept) (h .source .0) fcb fcv)) (answered m (replies c (recalled m) ∷ []))
-    (answerNew c m (newAnswer (active points (h .to)) isSda room (length high) (length low)) fcb fcv (shown high low) h p))
+    (pick (said (repeated (m .kept) (h .source .0) fcb fcv)) (answered m (replies r (recalled m) ∷ []))
+    (answerNew r m (newAnswer (active points (h .to)) isSda room (length high) (length low)) fcb fcv (shown high low) h p))
 
 -- by service; Ident and LSAP status are "read, never answered"
 unfoldable pub asks : Service → Asks
@@ -157,22 +155,23 @@ asks SrdHigh = Srd
 asks Ident = Never
 asks Lsap = Never
 
-unfoldable pub answerAs : Asks → Core → List ℕ → Memory → Bool → Bool → Bool → List ℕ → List ℕ → Head → Part → Answered
-answerAs Sda c points m fcb fcv room high low h p = answerCounted c points m true fcb fcv room high low h p
-answerAs Srd c points m fcb fcv room high low h p = answerCounted c points m false fcb fcv room high low h p
-answerAs Sdn c points m fcb fcv room high low h p = answered m (sdnEvents points room h p)
-answerAs StatusAsked c points m fcb fcv room high low h p = answered m (statusEvents c h)
-answerAs Never c points m fcb fcv room high low h p = answered m []
+unfoldable pub answerAs : Asks → Responder → List ℕ → Memory → Bool → Bool → Bool → List ℕ → List ℕ → Head → Part
+    → Answered
+answerAs Sda r points m fcb fcv room high low h p = answerCounted r points m true fcb fcv room high low h p
+answerAs Srd r points m fcb fcv room high low h p = answerCounted r points m false fcb fcv room high low h p
+answerAs Sdn r points m fcb fcv room high low h p = answered m (sdnEvents points room h p)
+answerAs StatusAsked r points m fcb fcv room high low h p = answered m (statusEvents r h)
+answerAs Never r points m fcb fcv room high low h p = answered m []
 
-unfoldable pub answerTo : Control → Core → List ℕ → Memory → Bool → List ℕ → List ℕ → Head → Part → Answered
-answerTo (Request s fcb fcv) c points m room high low h p = answerAs (asks s) c points m fcb fcv room high low h p
-answerTo (Reply k code) c points m room high low h p = answered m []
+unfoldable pub answerTo : Control → Responder → List ℕ → Memory → Bool → List ℕ → List ℕ → Head → Part → Answered
+answerTo (Request s fcb fcv) r points m room high low h p = answerAs (asks s) r points m fcb fcv room high low h p
+answerTo (Reply k code) r points m room high low h p = answered m []
 
 -- "to TS or 127"
-unfoldable pub answer : Core → List ℕ → Memory → Bool → List ℕ → List ℕ → Head → Part → Answered
-answer c points m room high low h p =
-    pick (same (h .destination .0) (c .ts .0)) (answerTo (h .control) c points m room high low h p)
-    (pick (same (h .destination .0) 127) (answerTo (h .control) c points m room high low h p)
+unfoldable pub answer : Responder → List ℕ → Memory → Bool → List ℕ → List ℕ → Head → Part → Answered
+answer r points m room high low h p =
+    pick (same (h .destination .0) (r .ts .0)) (answerTo (h .control) r points m room high low h p)
+    (pick (same (h .destination .0) 127) (answerTo (h .control) r points m room high low h p)
     (answered m []))
 
 -- ---- what a request that was read has: its sender and its access points are in range
@@ -181,10 +180,9 @@ pub record Readable (h : Head) : Type 0 where
   pub to : outside (h .to) 63 ≡ false
   pub from : outside (h .from) 62 ≡ false
 
--- what is known where a request is answered: no setting, memory or buffer is refused, and the request was read
-pub record Asked (c : Core) (k : Kept) (h : Head) (high low out : List ℕ) : Type 0 where
-  pub settings : Small (c .settings)
-  pub ts : c .ts .0 ≤ 126
+-- what is known where a request is answered: no address, memory or buffer is refused, and the request was read
+pub record Asked (r : Responder) (k : Kept) (h : Head) (high low out : List ℕ) : Type 0 where
+  pub ts : r .ts .0 ≤ 126
   pub reply : k .length ≤ 255
   pub head : Readable h
   pub upper : length high ≤ 244

@@ -5,6 +5,7 @@ use mathlib.Core.Bool.{Bool, true, false}
 use mathlib.Core.List.{List, [], _∷_, _++_}
 use lib.ListN.{length, replicate}
 use Rattle.choice.specs.Choice.{pick, less, same, said}
+use Rattle.control.specs.declared.Kind.the-variants.{InRing}
 use Rattle.frame.specs.declared.Fields.{Fields}
 use Rattle.frame.specs.declared.Fields.the-variants.{Token, Short, Frame}
 use Rattle.frame.specs.declared.Part.{Part}
@@ -13,6 +14,7 @@ use Rattle.frame.specs.declared.Answer.the-variants.{Refused as Unread, Read}
 use Rattle.frame.specs.Reading.{read, shown}
 use Rattle.ring.specs.Ring.{previousOf}
 use Rattle.times.specs.declared.Settings.{Settings}
+use Rattle.times.specs.declared.Sending.the-variants.{Reply as ReplySending}
 use Rattle.request.specs.declared.Record.{Record}
 use Rattle.request.specs.Record.{DS}
 use Rattle.queue.specs.declared.Queue.{Queue}
@@ -29,11 +31,12 @@ use Rattle.state.specs.declared.Hold.{Hold}
 use Rattle.state.specs.declared.Core.{Core}
 use Rattle.state.specs.declared.Memory.{Memory}
 use Rattle.state.specs.declared.State.{State}
+use Rattle.state.specs.declared.Responder.{Responder}
 use Rattle.state.specs.declared.Outcome.the-variants.{Gone}
 use Rattle.state.specs.World.{Rows, Site, World, Event, Done, Called, accepted, ends, confirmed, collected}
 use Rattle.state.specs.World.{resets, refused, still, done, andThen, withQueue, queueOf, withCore, rowsOf}
 use Rattle.state.specs.World.{withRows, withSite, withMemory, stateOf}
-use Rattle.state.specs.Request.{UNKNOWN, recordOf, judged}
+use Rattle.state.specs.Request.{UNKNOWN, recordOf, waitFor, judged}
 use Rattle.state.specs.Pass.{recheck}
 use Rattle.state.specs.Hold.{NOBODY, ended, rest, begin, token, retry, concluded}
 use Rattle.state.specs.Answering.{Answered, answer}
@@ -136,11 +139,16 @@ collect p w =
     (called (collecting p (handed (queueOf p (w .site .core)) (rowsOf p (w .site) .row) (rowsOf p (w .site) .area)) (w .site)) w))
 
 -- ---- frame
+-- what this master answers as: TS, "type 3" in ring, "min TSDR before a reply"
+unfoldable pub responder : Core → Responder
+responder c = record { ts = c .ts; kind = InRing; wait = record { 0 = waitFor c ReplySending } }
+
 -- a good frame in Idle: a token, a request to answer, or nothing to this station
 unfoldable pub idle : ℕ → Bool → List ℕ → List ℕ → Fields → Part → World → Called
 idle clock room high low (Token d s) p w = called (token clock (d .0) (s .0) (w .site)) w
 idle clock room high low Short p w = nothing w
-idle clock room high low (Frame h) p w = replying (answer (w .site .core) (w .points) (w .memory) room high low h p) w
+idle clock room high low (Frame h) p w =
+    replying (answer (responder (w .site .core)) (w .points) (w .memory) room high low h p) w
 
 unfoldable pub idleRead : ℕ → Bool → List ℕ → List ℕ → Reading → World → Called
 idleRead clock room high low (Unread n) w = nothing w

@@ -2,6 +2,7 @@
 // specs/. Assumes nothing.
 use clock::BitTime;
 use control::Code;
+use control::Kind;
 use frame::Address;
 use frame::Head;
 use frame::Part;
@@ -165,6 +166,13 @@ pub enum Verdict {
 pub enum Choice {
     Serve(Priority),
     PassOn,
+}
+
+// What the answering side answers as: its TS, its station type, and the wait before each reply.
+pub struct Responder {
+    pub ts: Address,
+    pub kind: Kind,
+    pub wait: BitTime,
 }
 
 // What a request's service asks of the answering side: as an SDA, as an SRD, an indication, the status, or nothing.

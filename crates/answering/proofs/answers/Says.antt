@@ -7,7 +7,6 @@ use mathlib.Core.List.{List, [], _∷_}
 use native.Mathlib.Omega.{arith}
 use Rattle.choice.specs.Choice.{pick}
 use Rattle.choice.proofs.Rules.{less-false, false-less, false-same, pick-itself}
-use Rattle.clock.specs.declared.BitTime.{BitTime}
 use Rattle.frame.specs.declared.Access.{Access}
 use Rattle.frame.specs.declared.Access.the-variants.{None, At}
 use Rattle.frame.specs.declared.Head.{Head}
@@ -15,13 +14,11 @@ use Rattle.frame.specs.declared.Part.{Part}
 use Rattle.frame.specs.Format.{outside}
 use Rattle.laid.specs.Laid.{laid, Lays}
 use Rattle.laid.proofs.Laws.{laid-nil}
-use Rattle.times.specs.declared.Sending.the-variants.{Reply}
-use Rattle.state.specs.declared.Core.{Core}
 use Rattle.state.specs.declared.Kept.{Kept}
 use Rattle.state.specs.declared.Spoken.{Spoken}
+use Rattle.state.specs.declared.Responder.{Responder}
 use Rattle.state.specs.declared.Indication.{Indication}
 use Rattle.state.specs.declared.Indication.the-variants.{Shown, None as NoIndication}
-use Rattle.state.specs.Request.{waitFor}
 use Rattle.state.specs.Answering.{Readable, Answerable, reserved, replies, shows}
 use Rattle.state.specs.Told.{Says, telling, untold, adds}
 
@@ -76,14 +73,14 @@ says-shows k false h p out =
       laid = record { place = refl; left = sym (laid-nil out 0); near = omega arith };
     }
 
-module _ (c : Core) {k : Kept} {o out out′ : List ℕ} {n : ℕ} {w : BitTime} where
-  pub says-reply : w .0 ≡ waitFor c Reply → Lays out 0 o 255 n out′
-      → Says k (replies c o ∷ []) out (record { kept = k; length = n; wait = w; indication = NoIndication }) out′
+module _ (r : Responder) {k : Kept} {o out out′ : List ℕ} {n : ℕ} where
+  pub says-reply : Lays out 0 o 255 n out′
+      → Says k (replies r o ∷ []) out (record { kept = k; length = n; wait = r .wait; indication = NoIndication }) out′
   unfolding telling untold adds replies
-  says-reply e l = record { kept = refl; wait = e; indication = refl; laid = l }
+  says-reply l = record { kept = refl; wait = refl; indication = refl; laid = l }
 
-  pub says-new : {q : Kept} {s : Indication} (i : Bool) (h : Head) (p : Part) → q ≡ k → w .0 ≡ waitFor c Reply
+  pub says-new : {q : Kept} {s : Indication} (i : Bool) (h : Head) (p : Part) → q ≡ k
       → s ≡ pick i (Shown h p) NoIndication → Lays out 0 o 255 n out′
-      → Says k (replies c o ∷ shows i h p) out (record { kept = q; length = n; wait = w; indication = s }) out′
+      → Says k (replies r o ∷ shows i h p) out (record { kept = q; length = n; wait = r .wait; indication = s }) out′
   unfolding telling untold adds replies
-  says-new i h p f e d l = record { kept = f; wait = e; indication = d ∙ told-shows i h p; laid = l }
+  says-new i h p f d l = record { kept = f; wait = refl; indication = d ∙ told-shows i h p; laid = l }

@@ -8,7 +8,6 @@ use lib.ListN.{length}
 use Rattle.choice.proofs.Rules.{less-false, same-false, false-less, pick-false, pick-itself}
 use Rattle.control.specs.declared.Code.{Code}
 use Rattle.control.specs.Control.{fc, lawful}
-use Rattle.frame.specs.declared.Address.{Address}
 use Rattle.frame.specs.declared.Access.{Access}
 use Rattle.frame.specs.declared.Access.the-variants.{None, At}
 use Rattle.frame.specs.declared.Head.{Head}
@@ -16,6 +15,7 @@ use Rattle.frame.specs.declared.Fields.the-variants.{Frame}
 use Rattle.frame.specs.Format.{extension, unit, outside, misdirected}
 use Rattle.write.proofs.Lengths.{length-unit}
 use Rattle.write.proofs.Laying.{Laying, Passed, laying-frame}
+use Rattle.state.specs.declared.Responder.{Responder}
 use Rattle.state.specs.Answering.{Answerable, replyHead}
 
 -- an access point has at most one octet, and is inside 63 if inside 62
@@ -29,16 +29,16 @@ unfolding outside
 wider None e = refl
 wider (At p) e = pick-itself _ ∙ less-false (omega (arith, false-less _ _ (sym (pick-itself _) ∙ e)))
 
-module _ (ts : Address) (h : Head) (k : Code) (x : List ℕ) (a : Answerable h) (n : length x ≤ 244) where
-  units : length (unit (replyHead ts h k) x) ≤ 246
+module _ (r : Responder) (h : Head) (k : Code) (x : List ℕ) (a : Answerable h) (n : length x ≤ 244) where
+  units : length (unit (replyHead r h k) x) ≤ 246
   unfolding replyHead
-  units = rw (length-unit (replyHead ts h k) x) (omega (arith, length-extension (h .from), length-extension (h .to)))
+  units = rw (length-unit (replyHead r h k) x) (omega (arith, length-extension (h .from), length-extension (h .to)))
 
-  directed : misdirected (h .source .0) (fc (replyHead ts h k .control)) ≡ false
+  directed : misdirected (h .source .0) (fc (replyHead r h k .control)) ≡ false
   unfolding misdirected
   directed = pick-false _ _ (same-false (λ q. omega (arith, a .source)))
 
-  reply-passed : ts .0 ≤ 126 → Passed (replyHead ts h k) (length (unit (replyHead ts h k) x))
+  reply-passed : r .ts .0 ≤ 126 → Passed (replyHead r h k) (length (unit (replyHead r h k) x))
   unfolding replyHead lawful
   reply-passed t =
       record {
@@ -51,5 +51,5 @@ module _ (ts : Address) (h : Head) (k : Code) (x : List ℕ) (a : Answerable h) 
         units = units;
       }
 
-  pub laying-reply : (o : List ℕ) → ts .0 ≤ 126 → 255 ≤ length o → Laying (Frame (replyHead ts h k)) x o
-  laying-reply o t l = laying-frame (replyHead ts h k) x o (reply-passed t) l
+  pub laying-reply : (o : List ℕ) → r .ts .0 ≤ 126 → 255 ≤ length o → Laying (Frame (replyHead r h k)) x o
+  laying-reply o t l = laying-frame (replyHead r h k) x o (reply-passed t) l

@@ -13,6 +13,7 @@ use Rattle.state.specs.declared.Heard.{Heard}
 use Rattle.state.specs.declared.Indication.the-variants.{None}
 use Rattle.state.specs.declared.Moved.{Moved}
 use Rattle.state.specs.declared.Spoken.{Spoken}
+use Rattle.state.specs.declared.Responder.{Responder}
 use Rattle.state.specs.World.{Rows, Event, Done, siteOf, withSite, withMemory}
 use Rattle.state.specs.Answering.{Answered, replies}
 use Rattle.state.specs.Calls.{called, replying, nothing, refuse}
@@ -56,14 +57,15 @@ module _ (c : Core) {k : Kept} (masters : List ℕ) {t : List ℕ} (marks : List
   stands-does d {m} q x e =
       rw (e, ← x .site, unrefused _ (q .calm), q .silent, ← x .wait, placed _ (x .laid), ← x .laid .left)
 
-answers-unrefused : {c : Core} {l : List Event} → Answers c l → telling l .refused ≡ 0
+answers-unrefused : {r : Responder} {l : List Event} → Answers r l → telling l .refused ≡ 0
 unfolding telling untold adds replies
 answers-unrefused none = refl
 answers-unrefused (replied o l a) = answers-unrefused a
 answers-unrefused (shown h d l a) = answers-unrefused a
 
-module _ {c : Core} (k : Kept) {masters t marks points : List ℕ} (octets : List ℕ) {high low : Rows} {out : List ℕ} {r : Heard} {octets′ out′ : List ℕ} where
-  pub stands-says : (a : Answered) {s : Spoken} → Answering c a → Says (a .memory .kept) (a .events) out s out′
+module _ {v : Responder} {c : Core} (k : Kept) {masters t marks points : List ℕ} (octets : List ℕ) {high low : Rows}
+    {out : List ℕ} {r : Heard} {octets′ out′ : List ℕ} where
+  pub stands-says : (a : Answered) {s : Spoken} → Answering v a → Says (a .memory .kept) (a .events) out s out′
       → octets′ ≡ a .memory .octets → r ≡ speaking c s
       → stands r masters t marks points octets′ high low out′
       ≡ standing (replying a (worldIn c k masters t marks points octets high low)) out

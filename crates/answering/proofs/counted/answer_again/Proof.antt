@@ -7,7 +7,16 @@ use Rattle.answering.proofs.counted.answer_again.Tie as tie
 
 returns : tie.Need-returns
 unfolding recalled
-returns c = says-reply (c .before .before .before .before .before .before .before .args .c) (c .wait-for .ensures) (c .before .before .before .recall .ensures)
+returns c =
+    let after-recall : tie.After-recall = search depth 0 in
+    let start : tie.Start = search depth 0 in
+    says-reply (start .args .responder) (after-recall .recall .ensures)
 
 pub answer-again-spec : {M : Type 1} → statement M
-answer-again-spec = tie.close (tie.spec (λ c. search needs) (λ c κs. search needs) (λ c κs. search needs) (λ c. search needs) returns)
+answer-again-spec =
+    tie.close
+    (tie.spec
+    (λ c. search needs)
+    (λ c κs. search needs)
+    (λ c. search needs)
+    returns)

@@ -28,7 +28,7 @@ answer-new-requires c κs =
     let q = s .pre in
     let a = answerable (q .head) (sym (c .before .before .before .before .before .before .before .before .reserved .ensures) ∙ c .before .before .before .before .before .before .before .if1 .left) in
     let x = shown-short (s .args .high .now) (s .args .low .now) (q .upper) (q .lower) in
-    (q .settings, (q .ts, (a, (rw (c .before .shown .ensures) x, q .room))))
+    (q .ts, (a, (rw (c .before .shown .ensures) x, q .room)))
 
 returns-3 : tie.Need-returns-3
 unfolding answerCounted
