@@ -4,7 +4,7 @@ ghost use mathlib.Core.Path.{_≡_};
 ghost use Prim.Native.Nat.{_≤_};
 ghost use mathlib.Core.List.{[], _∷_};
 ghost use lib.ListN.{length};
-ghost use Rattle.state.specs.Answering.{Answerable, Asked, memory, replies, recalled, answerNew, answerCounted};
+ghost use Rattle.state.specs.Answering.{UPDATE, Answerable, Asked, memory, replies, recalled, answerNew, answerCounted};
 ghost use Rattle.state.specs.Told.{Says};
 use super::answers;
 use super::memory;
@@ -32,7 +32,7 @@ fn answer_new(
     out: &mut [u8],
 ) -> Spoken
     requires { ⌜ (responder .ts .0 ≤ 126)
-        × ((Answerable h) × ((length (now x) ≤ 244) × (255 ≤ length (now out)))) ⌝ }
+        × ((Answerable h) × ((length (now x) ≤ UPDATE) × (255 ≤ length (now out)))) ⌝ }
     ensures { λ r. ⌜ Says
         (answerNew responder (memory k (now (octets .entry))) n fcb fcv (now (x .entry)) h p .memory .kept)
         (answerNew responder (memory k (now (octets .entry))) n fcb fcv (now (x .entry)) h p .events)

@@ -5,7 +5,7 @@ ghost use mathlib.Core.List.{[]};
 ghost use lib.ListN.{length};
 ghost use Rattle.frame.specs.Format.{octets};
 ghost use Rattle.laid.specs.Laid.{Lays};
-ghost use Rattle.state.specs.Answering.{Answerable, replyOctets};
+ghost use Rattle.state.specs.Answering.{UPDATE, Answerable, replyOctets};
 ghost use Rattle.state.specs.Answering.{replyHead as Answering·replyHead, carries as Answering·carries};
 use control::Code;
 use control::Control;
@@ -53,7 +53,7 @@ fn carries(k: Code) -> bool
 // Lays a reply with a code and its data.
 fn lay_coded(responder: Responder, h: Head, code: Code, data: &[u8], out: &mut [u8]) -> usize
     requires { ⌜ (responder .ts .0 ≤ 126)
-        × ((Answerable h) × ((length (now «data») ≤ 244) × (255 ≤ length (now out)))) ⌝ }
+        × ((Answerable h) × ((length (now «data») ≤ UPDATE) × (255 ≤ length (now out)))) ⌝ }
     ensures { λ n. ⌜ Lays (now (out .entry)) 0
         (octets (Fields.Frame (Answering·replyHead responder h code)) (now («data» .entry))) 255 n (now (out .exit)) ⌝ }
 {
@@ -75,7 +75,7 @@ fn lay_short(out: &mut [u8]) -> usize
 
 fn lay_given(responder: Responder, h: Head, code: Code, x: &[u8], out: &mut [u8]) -> usize
     requires { ⌜ (responder .ts .0 ≤ 126)
-        × ((Answerable h) × ((length (now x) ≤ 244) × (255 ≤ length (now out)))) ⌝ }
+        × ((Answerable h) × ((length (now x) ≤ UPDATE) × (255 ≤ length (now out)))) ⌝ }
     ensures { λ n. ⌜ Lays (now (out .entry)) 0 (replyOctets responder h (Given.Coded code) (now (x .entry))) 255 n
         (now (out .exit)) ⌝ }
 {
@@ -88,7 +88,7 @@ fn lay_given(responder: Responder, h: Head, code: Code, x: &[u8], out: &mut [u8]
 // Lays what is given to a request, and gives its count of octets.
 pub fn lay_reply(responder: Responder, h: Head, g: Given, x: &[u8], out: &mut [u8]) -> usize
     requires { ⌜ (responder .ts .0 ≤ 126)
-        × ((Answerable h) × ((length (now x) ≤ 244) × (255 ≤ length (now out)))) ⌝ }
+        × ((Answerable h) × ((length (now x) ≤ UPDATE) × (255 ≤ length (now out)))) ⌝ }
     ensures { λ n. ⌜ Lays (now (out .entry)) 0 (replyOctets responder h g (now (x .entry))) 255 n (now (out .exit)) ⌝ }
 {
     match g {

@@ -11,7 +11,7 @@ use Rattle.state.specs.declared.Core.{Core}
 use Rattle.state.specs.declared.Kept.{Kept}
 use Rattle.state.specs.declared.Heard.{Heard}
 use Rattle.state.specs.World.{Rows, World, Called}
-use Rattle.state.specs.Answering.{Readable}
+use Rattle.state.specs.Answering.{UPDATE, Readable}
 use Rattle.state.specs.Refusals.{Sited}
 use Rattle.state.specs.Told.{stands, standing, worldIn}
 
@@ -24,8 +24,8 @@ pub record Hears (f : World → Called) (c : Core) (k : Kept) (masters marks poi
 pub record Listening (c : Core) (k : Kept) (high low : Rows) (first second out : List ℕ) : Type 0 where
   pub sited : Sited c high low
   pub kept : k .length ≤ 255
-  pub upper : length first ≤ 244
-  pub lower : length second ≤ 244
+  pub upper : length first ≤ UPDATE
+  pub lower : length second ≤ UPDATE
   pub room : 255 ≤ length out
 
 -- a frame's fields were read

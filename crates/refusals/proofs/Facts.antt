@@ -24,6 +24,7 @@ use Rattle.state.specs.declared.Priority.the-variants.{High, Low}
 use Rattle.state.specs.declared.Core.{Core}
 use Rattle.state.specs.declared.Kept.{Kept}
 use Rattle.state.specs.World.{Rows, queueOf}
+use Rattle.state.specs.Answering.{UPDATE}
 use Rattle.state.specs.Refusals.{Lawful, Sited, unstartable, unlent, cramped, unstarted, misaddressed, overcounted}
 use Rattle.state.specs.Refusals.{oddIn, lawless, soundIn, unlikeIn, rowBy, inFlight, unsound, refusalIn}
 
@@ -55,13 +56,14 @@ unfolding unlent
 lent-rows q r e = lent q (r .row) (r .area) e
 
 -- ---- 22
-roomy : (out first second : ℕ) → cramped out first second ≡ false → (255 ≤ out) × ((first ≤ 244) × (second ≤ 244))
+roomy : (out first second : ℕ) → cramped out first second ≡ false
+    → (255 ≤ out) × ((first ≤ UPDATE) × (second ≤ UPDATE))
 unfolding cramped
 roomy out first second e =
     let a = unrefused _ _ e in
     let b = unrefused _ _ (a .1) in
     let d = unrefused _ _ (b .1) in
-    (false-less out 255 (a .0), (false-less 244 first (b .0), false-less 244 second (d .0)))
+    (false-less out 255 (a .0), (false-less UPDATE first (b .0), false-less UPDATE second (d .0)))
 
 -- ---- 29, by the state alone
 pub started-startable : (c : Core) (masters started : List ℕ) → unstarted c masters started ≡ false → unstartable (c .settings) (c .ts .0) masters ≡ false
@@ -253,10 +255,10 @@ module _ (out first second : ℕ) (c : Core) (masters started : List ℕ) (k : K
   pub output-long : 255 ≤ out
   output-long = roomy out first second (tests .1 .1 .0) .0
 
-  pub first-short : first ≤ 244
+  pub first-short : first ≤ UPDATE
   first-short = roomy out first second (tests .1 .1 .0) .1 .0
 
-  pub second-short : second ≤ 244
+  pub second-short : second ≤ UPDATE
   second-short = roomy out first second (tests .1 .1 .0) .1 .1
 
   pub reply-short : k .length ≤ 255

@@ -19,6 +19,7 @@ use state::Core;
 use state::Kept;
 use state::Phase;
 use state::Priority;
+use state::UPDATE;
 use times::Settings;
 
 fn among(masters: &[u8; 127], ts: u8) -> bool
@@ -160,10 +161,10 @@ pub fn cramped(out: usize, high: usize, low: usize) -> bool
     if out < 255 {
         return true;
     }
-    if 244 < high {
+    if UPDATE < high {
         return true;
     }
-    if 244 < low {
+    if UPDATE < low {
         return true;
     }
     false

@@ -41,7 +41,7 @@ use Rattle.state.specs.declared.Verdict.the-variants.{Plausible, Vain, F
 use Rattle.state.specs.World.{World, Event}
 use Rattle.state.specs.Request.{judgedBy, judged}
 use Rattle.state.specs.Answering as A
-use Rattle.state.specs.Answering.{Answered, answered, replyHead, replyOctets, remembered, answerNew}
+use Rattle.state.specs.Answering.{UPDATE, Answered, answered, replyHead, replyOctets, remembered, answerNew}
 use Rattle.state.specs.Answering.{answerCounted, answerAs, answerTo, answer}
 use Rattle.state.specs.Refusals.{cramped, refusalIn, refusal}
 use Rattle.state.proofs.Cases.{by}
@@ -163,10 +163,10 @@ length-body : (h : Head) (x : List ℕ) → length (body h x) ≤ length x + 5
 unfolding body unit
 length-body h x = simp length-append (omega (arith, length-extension (h .to), length-extension (h .from)))
 
-carried-short : (b : Bool) (x : List ℕ) → length x ≤ 244 → length (pick b x []) ≤ 244
-carried-short b x h = by (λ (l : List ℕ). length l ≤ 244) _ _ _ (λ e. h) (λ e. omega arith)
+carried-short : (b : Bool) (x : List ℕ) → length x ≤ UPDATE → length (pick b x []) ≤ UPDATE
+carried-short b x h = by (λ (l : List ℕ). length l ≤ UPDATE) _ _ _ (λ e. h) (λ e. omega arith)
 
-reply-short : (r : Responder) (h : Head) (g : Given) (x : List ℕ) → length x ≤ 244
+reply-short : (r : Responder) (h : Head) (g : Given) (x : List ℕ) → length x ≤ UPDATE
     → length (replyOctets r h g x) ≤ 255
 unfolding replyOctets octets
 reply-short r h Acknowledged x l = omega arith
@@ -176,9 +176,9 @@ reply-short r h (Coded k) x l =
     let c = length-framed (body (replyHead r h k) (pick (A.carries k) x [])) in
     omega arith
 
-shown-short : (high low : List ℕ) → length high ≤ 244 → length low ≤ 244 → length (A.shown high low) ≤ 244
+shown-short : (high low : List ℕ) → length high ≤ UPDATE → length low ≤ UPDATE → length (A.shown high low) ≤ UPDATE
 unfolding A.shown
-shown-short high low h l = by (λ (x : List ℕ). length x ≤ 244) _ _ _ (λ e. h) (λ e. l)
+shown-short high low h l = by (λ (x : List ℕ). length x ≤ UPDATE) _ _ _ (λ e. h) (λ e. l)
 
 -- ---- the memory after an answer
 pub record Minds (a : Answered) : Type 0 where
@@ -194,7 +194,7 @@ unfolding remembered
 minds-remembered m a fcb fcv x h l z = by Memorable _ _ _ (λ e. record { source = omega arith; reply = l }) (λ e. z)
 
 module _ (r : Responder) (points : List ℕ) (m : Memory) (room : Bool) (high low : List ℕ) (h : Head) (d : Part)
-    (z : Memorable m) (s : h .source .0 ≤ 126) (u : length high ≤ 244) (l : length low ≤ 244) where
+    (z : Memorable m) (s : h .source .0 ≤ 126) (u : length high ≤ UPDATE) (l : length low ≤ UPDATE) where
   minds-new : (n : New) (fcb fcv : Bool) → Minds (answerNew r m n fcb fcv (A.shown high low) h d)
   unfolding answerNew
   minds-new n fcb fcv =
@@ -225,7 +225,7 @@ module _ (r : Responder) (points : List ℕ) (m : Memory) (room : Bool) (high lo
   minds-answer = by Minds _ _ _ (λ e. minds-to _) (λ e. by Minds _ _ _ (λ e. minds-to _) (λ e. minds-answered m _ z))
 
 -- ---- an update that is not refused is at most 244 octets
-pub short-updates : (out high low : ℕ) (w : World) → refusal out high low w ≡ 0 → (high ≤ 244) × (low ≤ 244)
+pub short-updates : (out high low : ℕ) (w : World) → refusal out high low w ≡ 0 → (high ≤ UPDATE) × (low ≤ UPDATE)
 unfolding refusal refusalIn cramped
 short-updates out high low w e =
     let a = passed _ 21 _ (omega arith) e in

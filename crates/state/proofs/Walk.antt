@@ -42,7 +42,7 @@ use Rattle.state.specs.Request.{sendEvents, send, againEvents, againOf, 
 use Rattle.state.specs.Pass.{passEvents, pass, passAgain, recheck}
 use Rattle.state.specs.Hold.{choice, finish, chosen, choose, rest, begin, token, ended, retry, over, givenUp}
 use Rattle.state.specs.Hold.{concluded}
-use Rattle.state.specs.Answering.{Answered}
+use Rattle.state.specs.Answering.{UPDATE, Answered}
 use Rattle.state.specs.Refusals.{unstarted, lawless}
 use Rattle.state.specs.Calls as Calls
 use Rattle.state.specs.Calls.{called, replying, refuse, nothing, submitting, collecting, responder, idle, idleRead}
@@ -203,7 +203,7 @@ carried-rested w f c =
     }
 
 -- ---- frame
-module _ (clock : ℕ) (room : Bool) (high low octets : List ℕ) (u : length high ≤ 244) (l : length low ≤ 244) where
+module _ (clock : ℕ) (room : Bool) (high low octets : List ℕ) (u : length high ≤ UPDATE) (l : length low ≤ UPDATE) where
   carried-idle : (x : Fields) (d : Part) (w : World) → read octets ≡ Read x d
       → flight (w .site .core .doing .phase) ≡ false → Carried w (idle clock room high low x d w)
   unfolding idle

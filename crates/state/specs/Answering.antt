@@ -41,6 +41,10 @@ unfoldable pub reserved : Access → Bool
 reserved None = false
 reserved (At p) = same (p .0) 63
 
+-- "an update over 244" is refused
+abbrev pub UPDATE : ℕ
+UPDATE = 244
+
 -- "Data are shown as part of the high update or of the low update, high first; length 0 means none"
 unfoldable pub shown : List ℕ → List ℕ → List ℕ
 shown high low = pick (less 0 (length high)) high low
@@ -185,8 +189,8 @@ pub record Asked (r : Responder) (k : Kept) (h : Head) (high low out : List ℕ)
   pub ts : r .ts .0 ≤ 126
   pub reply : k .length ≤ 255
   pub head : Readable h
-  pub upper : length high ≤ 244
-  pub lower : length low ≤ 244
+  pub upper : length high ≤ UPDATE
+  pub lower : length low ≤ UPDATE
   pub room : 255 ≤ length out
 
 -- and if it is not to access point 63, a reply to it is lawful

@@ -21,6 +21,7 @@ use Rattle.state.specs.declared.Core.{Core}
 use Rattle.state.specs.declared.Kept.{Kept}
 use Rattle.state.specs.World.{World, Rows, queueOf}
 use Rattle.state.specs.Request.{recordIn}
+use Rattle.state.specs.Answering.{UPDATE}
 
 -- 20: "setting, TS over 126 or set out of rule": TS is among the masters
 unfoldable pub unstartable : Settings → ℕ → List ℕ → Bool
@@ -33,7 +34,7 @@ unlent q r = misfit q SIZE (length (r .row)) (length (r .area))
 
 -- 22: "output under 255 octets, or an update over 244"
 unfoldable pub cramped : ℕ → ℕ → ℕ → Bool
-cramped out high low = pick (less out 255) true (pick (less 244 high) true (pick (less 244 low) true false))
+cramped out high low = pick (less out 255) true (pick (less UPDATE high) true (pick (less UPDATE low) true false))
 
 -- 29, by the state alone: "settings, TS or a set start would refuse": the set in force and the one kept for reset
 unfoldable pub unstarted : Core → List ℕ → List ℕ → Bool

@@ -11,6 +11,9 @@ use request::Record;
 use ring::Masters;
 use times::Settings;
 
+// The most octets of an update.
+pub const UPDATE: usize = 244;
+
 // The phases: Idle, Reply awaited, SDN going out, Pass checked, Pass to self.
 pub enum Phase {
     Idle,

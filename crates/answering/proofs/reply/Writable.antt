@@ -16,7 +16,7 @@ use Rattle.frame.specs.Format.{extension, unit, outside, misdirected}
 use Rattle.write.proofs.Lengths.{length-unit}
 use Rattle.write.proofs.Laying.{Laying, Passed, laying-frame}
 use Rattle.state.specs.declared.Responder.{Responder}
-use Rattle.state.specs.Answering.{Answerable, replyHead}
+use Rattle.state.specs.Answering.{UPDATE, Answerable, replyHead}
 
 -- an access point has at most one octet, and is inside 63 if inside 62
 length-extension : (a : Access) → length (extension a) ≤ 1
@@ -29,7 +29,7 @@ unfolding outside
 wider None e = refl
 wider (At p) e = pick-itself _ ∙ less-false (omega (arith, false-less _ _ (sym (pick-itself _) ∙ e)))
 
-module _ (r : Responder) (h : Head) (k : Code) (x : List ℕ) (a : Answerable h) (n : length x ≤ 244) where
+module _ (r : Responder) (h : Head) (k : Code) (x : List ℕ) (a : Answerable h) (n : length x ≤ UPDATE) where
   units : length (unit (replyHead r h k) x) ≤ 246
   unfolding replyHead
   units = rw (length-unit (replyHead r h k) x) (omega (arith, length-extension (h .from), length-extension (h .to)))
