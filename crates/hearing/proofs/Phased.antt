@@ -20,7 +20,8 @@ module _ (clock : ℕ) (room : Bool) (first second s : List ℕ) (w : World) {p 
   unfolding heard
   heard-idle e = rw e
 
-  pub heard-awaited : p ≡ Awaited → heard p clock room first second s w ≡ called (awaitedRead clock s (read s) (w .site)) w
+  pub heard-awaited : p ≡ Awaited
+      → heard p clock room first second s w ≡ called (awaitedRead clock s (read s) (w .site)) w
   unfolding heard
   heard-awaited e = rw e
 
@@ -33,7 +34,8 @@ module _ (clock : ℕ) (room : Bool) (first second s : List ℕ) (w : World) {p 
   heard-self e = rw e
 
 -- "Any frame .. ends the check": the core rests first
-module _ (clock : ℕ) (room : Bool) (first second s : List ℕ) (c : Core) (k : Kept) (masters t marks points octets : List ℕ) (high low : Rows) {p : Phase} {c′ : Core} where
+module _ (clock : ℕ) (room : Bool) (first second s : List ℕ) (c : Core) (k : Kept)
+    (masters t marks points octets : List ℕ) (high low : Rows) {p : Phase} {c′ : Core} where
   pub heard-check : p ≡ Check → c′ ≡ withDoing (resting (c .doing)) c
       → heard p clock room first second s (worldIn c k masters t marks points octets high low)
       ≡ idleRead clock room first second (read s) (worldIn c′ k masters t marks points octets high low)
@@ -44,14 +46,22 @@ sited-resting : {c : Core} {high low : Rows} → Sited c high low → Sited (wit
 unfolding withDoing
 sited-resting s =
     record {
-      core = record { settings = s .core .settings; retries = s .core .retries; ts = s .core .ts; high = s .core .high; low = s .core .low };
+      core =
+          record {
+            settings = s .core .settings;
+            retries = s .core .retries;
+            ts = s .core .ts;
+            high = s .core .high;
+            low = s .core .low;
+          };
       lentHigh = s .lentHigh;
       lentLow = s .lentLow;
       soundHigh = s .soundHigh;
       soundLow = s .soundLow;
     }
 
-pub listening-resting : {c : Core} {k : Kept} {high low : Rows} {first second out : List ℕ} → Listening c k high low first second out
+pub listening-resting : {c : Core} {k : Kept} {high low : Rows} {first second out : List ℕ}
+    → Listening c k high low first second out
     → Listening (withDoing (resting (c .doing)) c) k high low first second out
 listening-resting l =
     record { sited = sited-resting (l .sited); kept = l .kept; upper = l .upper; lower = l .lower; room = l .room }

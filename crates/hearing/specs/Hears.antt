@@ -15,7 +15,8 @@ use Rattle.state.specs.Answering.{UPDATE, Readable}
 use Rattle.state.specs.Refusals.{Sited}
 use Rattle.state.specs.Told.{stands, standing, worldIn}
 
-pub record Hears (f : World → Called) (c : Core) (k : Kept) (masters marks points octets : List ℕ) (high low : Rows) (out : List ℕ) (r : Heard) (masters′ marks′ octets′ : List ℕ) (high′ low′ : Rows) (out′ : List ℕ) : Type 0 where
+pub record Hears (f : World → Called) (c : Core) (k : Kept) (masters marks points octets : List ℕ) (high low : Rows)
+    (out : List ℕ) (r : Heard) (masters′ marks′ octets′ : List ℕ) (high′ low′ : Rows) (out′ : List ℕ) : Type 0 where
   pub told : (t : List ℕ)
       → stands r masters′ t marks′ points octets′ high′ low′ out′
       ≡ standing (f (worldIn c k masters t marks points octets high low)) out

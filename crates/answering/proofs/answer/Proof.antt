@@ -24,14 +24,25 @@ none-of false false x y e = refl
 returns : tie.Need-returns
 unfolding answer
 returns c =
-    let l = c .before .before .before .before .before in
-    rw (one-of _ _ _ _ (sym (l .before .ours .ensures) ∙ l .if1 .taken)) (c .before .before .answer-to .ensures)
+    let after-answer-to : tie.After-answer-to = search depth 0 in
+    let l : tie.Then1 = search depth 0 in
+    let after-ours : tie.After-ours = search depth 0 in
+    rw (one-of _ _ _ _ (sym (after-ours .ours .ensures) ∙ l .if1 .taken)) (after-answer-to .answer-to .ensures)
 
 returns-2 : tie.Need-returns-2
 unfolding answer answered
 returns-2 c =
-    let l = c .before in
-    rw (none-of _ _ _ _ (sym (l .before .ours .ensures) ∙ l .if1 .left), c .silent .ensures) (says-nothing _ _, refl)
+    let l : tie.Else1 = search depth 0 in
+    let after-ours : tie.After-ours = search depth 0 in
+    rw (none-of _ _ _ _ (sym (after-ours .ours .ensures) ∙ l .if1 .left), c .silent .ensures) (says-nothing _ _, refl)
 
 pub answer-spec : {M : Type 1} → statement M
-answer-spec = tie.close (tie.spec (λ c κs. search needs) (λ c κs. search needs) (λ c. search needs) returns (λ c κs. search needs) returns-2)
+answer-spec =
+    tie.close
+    (tie.spec
+    (λ c κs. search needs)
+    (λ c κs. search needs)
+    (λ c. search needs)
+    returns
+    (λ c κs. search needs)
+    returns-2)

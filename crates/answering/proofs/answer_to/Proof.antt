@@ -8,11 +8,27 @@ use Rattle.answering.proofs.answer_to.Tie as tie
 
 returns : tie.Need-returns
 unfolding answerTo
-returns c = rw (c .before .before .before .before .before .before .before .control .given .1, ← c .before .before .before .before .before .asks .ensures) (c .before .before .answer-as .ensures)
+returns c =
+    let after-answer-as : tie.After-answer-as = search depth 0 in
+    let after-asks : tie.After-asks = search depth 0 in
+    let after-control : tie.After-control = search depth 0 in
+    rw (after-control .control .given .1, ← after-asks .asks .ensures) (after-answer-as .answer-as .ensures)
 
 returns-2 : tie.Need-returns-2
 unfolding answerTo answered
-returns-2 c = rw (c .before .enum-told .given .1, c .silent .ensures) (says-nothing _ _, refl)
+returns-2 c =
+    let after-enum-told : tie.After-enum-told = search depth 0 in
+    rw (after-enum-told .enum-told .given .1, c .silent .ensures) (says-nothing _ _, refl)
 
 pub answer-to-spec : {M : Type 1} → statement M
-answer-to-spec = tie.close (tie.spec (λ c. search needs) (λ c κs. search needs) (λ c κs. search needs) (λ c. search needs) (λ c κs. search needs) (λ c. search needs) returns returns-2)
+answer-to-spec =
+    tie.close
+    (tie.spec
+    (λ c. search needs)
+    (λ c κs. search needs)
+    (λ c κs. search needs)
+    (λ c. search needs)
+    (λ c κs. search needs)
+    (λ c. search needs)
+    returns
+    returns-2)

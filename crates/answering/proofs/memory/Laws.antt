@@ -37,7 +37,8 @@ remembered-octets k l a true v x = refl
 remembered-octets k l a false true x = refl
 remembered-octets k l a false false x = refl
 
-module _ {o out out′ : List ℕ} {n : ℕ} (y : Lays out 0 o 255 n out′) (k : Kept) (l : List ℕ) (a : Address) (f v : Bool) where
+module _ {o out out′ : List ℕ} {n : ℕ} (y : Lays out 0 o 255 n out′) (k : Kept) (l : List ℕ) (a : Address)
+    (f v : Bool) where
   pub kept-new : {q : Kept} → q ≡ pick (pick f true v) (record { source = a; bit = f; length = n }) k
       → q ≡ remembered (memory k l) a f v o .kept
   kept-new e =

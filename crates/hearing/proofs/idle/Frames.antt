@@ -37,7 +37,8 @@ module _ (clock : ℕ) (room : Bool) (first second : List ℕ) (p : Part) (w : W
   idle-short e = rw e
 
   pub idle-frame : {h : Head} → f ≡ Frame h
-      → idle clock room first second f p w ≡ replying (answer (responder (w .site .core)) (w .points) (w .memory) room first second h p) w
+      → idle clock room first second f p w
+      ≡ replying (answer (responder (w .site .core)) (w .points) (w .memory) room first second h p) w
   unfolding idle
   idle-frame e = rw e
 

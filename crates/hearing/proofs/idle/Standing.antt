@@ -36,7 +36,8 @@ abbrev pub speaking : Core → Spoken → Heard
 speaking c s =
     record { refused = 0; core = c; kept = s .kept; length = s .length; wait = s .wait; indication = s .indication }
 
-module _ {c : Core} {k : Kept} {masters t marks points octets : List ℕ} {high low : Rows} {out : List ℕ} {r : Heard} where
+module _ {c : Core} {k : Kept} {masters t marks points octets : List ℕ} {high low : Rows} {out : List ℕ}
+    {r : Heard} where
   pub stands-nothing : r ≡ refusing 0 c k
       → stands r masters t marks points octets high low out
       ≡ standing (nothing (worldIn c k masters t marks points octets high low)) out
@@ -49,7 +50,8 @@ module _ {c : Core} {k : Kept} {masters t marks points octets : List ℕ} {high 
   unfolding standing heardOf refuse telling untold adds
   stands-refused n e = rw (e, laid-nil out 0)
 
-module _ (c : Core) {k : Kept} (masters : List ℕ) {t : List ℕ} (marks : List ℕ) {points octets : List ℕ} (high low : Rows) {out : List ℕ} {r : Heard} {masters′ marks′ : List ℕ} {high′ low′ : Rows} {out′ : List ℕ} where
+module _ (c : Core) {k : Kept} (masters : List ℕ) {t : List ℕ} (marks : List ℕ) {points octets : List ℕ}
+    (high low : Rows) {out : List ℕ} {r : Heard} {masters′ marks′ : List ℕ} {high′ low′ : Rows} {out′ : List ℕ} where
   pub stands-does : (d : Done) {m : Moved} → Calm d → Does d out m masters′ marks′ high′ low′ out′ → r ≡ moving m k
       → stands r masters′ t marks′ points octets high′ low′ out′
       ≡ standing (called d (worldIn c k masters t marks points octets high low)) out

@@ -13,7 +13,7 @@ lay-reply-requires c κs =
     let else1 : tie.Else1 = search depth 0 in
     let after-reserved : tie.After-reserved = search depth 0 in
     let start : tie.Start = search depth 0 in
-    let a = answerable (start .pre .1 .0) (sym (after-reserved .reserved .ensures) ∙ (else1 .if1 .left)) in
+    let a = answerable (start .pre .1 .0) (sym (after-reserved .reserved .ensures) ∙ else1 .if1 .left) in
     (start .pre .0, (a, (omega arith, start .pre .1 .1)))
 
 returns : tie.Need-returns
@@ -21,7 +21,8 @@ unfolding statusEvents
 returns c =
     let then1 : tie.Then1 = search depth 0 in
     let after-reserved : tie.After-reserved = search depth 0 in
-    rw (pick-true _ _ (said-true (after-reserved .reserved .ensures) (then1 .if1 .taken)), (c .silent .ensures)) (says-nothing _ _)
+    rw (pick-true _ _ (said-true (after-reserved .reserved .ensures) (then1 .if1 .taken)), c .silent .ensures)
+    (says-nothing _ _)
 
 returns-2 : tie.Need-returns-2
 unfolding statusEvents

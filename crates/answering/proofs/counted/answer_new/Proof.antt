@@ -17,7 +17,8 @@ returns c =
     let y = after-lay-reply .lay-reply .ensures in
     let l = a .octets .now in (
       says-new (a .responder) (a .n .indicated) (a .h) (a .p)
-          (kept-new y (a .k) l (a .h .source) (a .fcb) (a .fcv) (after-kept-of .kept-of .ensures)) (c .indication .ensures) y,
+          (kept-new y (a .k) l (a .h .source) (a .fcb) (a .fcv) (after-kept-of .kept-of .ensures))
+          (c .indication .ensures) y,
       octets-new y (a .k) l (a .h .source) (a .fcb) (a .fcv) (after-remember .remember .ensures),
     )
 

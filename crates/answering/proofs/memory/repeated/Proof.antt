@@ -13,11 +13,16 @@ returns c = flag-false _ (not-true _ (c .if1 .taken)) refl
 
 returns-2 : tie.Need-returns-2
 unfolding repeated
-returns-2 c = flag-true _ (not-false _ (c .before .before .before .if1 .left)) (unless-same _ (c .if2 .taken) refl)
+returns-2 c =
+    let else1 : tie.Else1 = search depth 0 in
+    flag-true _ (not-false _ (else1 .if1 .left)) (unless-same _ (c .if2 .taken) refl)
 
 returns-3 : tie.Need-returns-3
 unfolding repeated
-returns-3 c = flag-true _ (not-false _ (c .before .before .before .before .if1 .left)) (if-same _ (c .before .if2 .left) (c .same-bit .ensures))
+returns-3 c =
+    let else2 : tie.Else2 = search depth 0 in
+    let else1 : tie.Else1 = search depth 0 in
+    flag-true _ (not-false _ (else1 .if1 .left)) (if-same _ (else2 .if2 .left) (c .same-bit .ensures))
 
 pub repeated-spec : {M : Type 1} → statement M
 repeated-spec = tie.close (tie.spec returns returns-2 (λ c κs. search needs) returns-3)

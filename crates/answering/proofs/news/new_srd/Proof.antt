@@ -7,15 +7,31 @@ use Rattle.answering.proofs.news.new_srd.Tie as tie
 
 returns : tie.Need-returns
 unfolding newSrd
-returns c = if-less _ (c .before .if1 .taken) (c .new-code .ensures)
+returns c =
+    let then1 : tie.Then1 = search depth 0 in
+    if-less _ (then1 .if1 .taken) (c .new-code .ensures)
 
 returns-2 : tie.Need-returns-2
 unfolding newSrd
-returns-2 c = unless-less _ (c .before .before .if1 .left) (if-less _ (c .before .if2 .taken) (c .new-code2 .ensures))
+returns-2 c =
+    let then2 : tie.Then2 = search depth 0 in
+    let else1 : tie.Else1 = search depth 0 in
+    unless-less _ (else1 .if1 .left) (if-less _ (then2 .if2 .taken) (c .new-code2 .ensures))
 
 returns-3 : tie.Need-returns-3
 unfolding newSrd newSda
-returns-3 c = unless-less _ (c .before .before .if1 .left) (unless-less _ (c .before .if2 .left) (c .new-sda .ensures))
+returns-3 c =
+    let else2 : tie.Else2 = search depth 0 in
+    let else1 : tie.Else1 = search depth 0 in
+    unless-less _ (else1 .if1 .left) (unless-less _ (else2 .if2 .left) (c .new-sda .ensures))
 
 pub new-srd-spec : {M : Type 1} → statement M
-new-srd-spec = tie.close (tie.spec (λ c κs. search needs) returns (λ c κs. search needs) returns-2 (λ c κs. search needs) returns-3)
+new-srd-spec =
+    tie.close
+    (tie.spec
+    (λ c κs. search needs)
+    returns
+    (λ c κs. search needs)
+    returns-2
+    (λ c κs. search needs)
+    returns-3)

@@ -6,10 +6,26 @@ use Rattle.answering.proofs.reply.lay_reply.Tie as tie
 
 returns : tie.Need-returns
 unfolding replyOctets
-returns c = rw (c .before .before .before .before .enum-told .given .1) (c .before .before .lay-short .ensures)
+returns c =
+    let after-lay-short : tie.After-lay-short = search depth 0 in
+    let after-enum-told : tie.After-enum-told = search depth 0 in
+    rw (after-enum-told .enum-told .given .1) (after-lay-short .lay-short .ensures)
 
 returns-2 : tie.Need-returns-2
-returns-2 c = rw (c .before .before .before .before .before .g .given .1) (c .before .before .lay-given .ensures)
+returns-2 c =
+    let after-lay-given : tie.After-lay-given = search depth 0 in
+    let after-g : tie.After-g = search depth 0 in
+    rw (after-g .g .given .1) (after-lay-given .lay-given .ensures)
 
 pub lay-reply-spec : {M : Type 1} → statement M
-lay-reply-spec = tie.close (tie.spec (λ c. search needs) (λ c κs. search needs) (λ c. search needs) (λ c κs. search needs) (λ c. search needs) returns (λ c. search needs) returns-2)
+lay-reply-spec =
+    tie.close
+    (tie.spec
+    (λ c. search needs)
+    (λ c κs. search needs)
+    (λ c. search needs)
+    (λ c κs. search needs)
+    (λ c. search needs)
+    returns
+    (λ c. search needs)
+    returns-2)

@@ -7,15 +7,26 @@ use Rattle.answering.proofs.reply.lay_short.Tie as tie
 
 returns : tie.Need-returns
 returns c =
-    let b = c .before .before .before .before in
-    let k = b .before .before .before in
+    let b : tie.After-write-short = search depth 0 in
+    let k : tie.Start = search depth 0 in
     never (laying-short (k .args .out .now) (k .pre)) (sym (c .enum-told .given .1) ∙ b .write-short .ensures .0)
 
 returns-2 : tie.Need-returns-2
 returns-2 c =
-    let b = c .before .before .before .before .before in
-    let k = b .before .before .before in
-    lays (laying-short (k .args .out .now) (k .pre)) (sym (c .before .n .given .1) ∙ b .write-short .ensures .0) (b .write-short .ensures .1)
+    let after-n : tie.After-n = search depth 0 in
+    let b : tie.After-write-short = search depth 0 in
+    let k : tie.Start = search depth 0 in
+    lays (laying-short (k .args .out .now) (k .pre)) (sym (after-n .n .given .1) ∙ b .write-short .ensures .0)
+    (b .write-short .ensures .1)
 
 pub lay-short-spec : {M : Type 1} → statement M
-lay-short-spec = tie.close (tie.spec (λ c κs. search needs) (λ c. search needs) (λ c. search needs) (λ c. search needs) returns (λ c. search needs) returns-2)
+lay-short-spec =
+    tie.close
+    (tie.spec
+    (λ c κs. search needs)
+    (λ c. search needs)
+    (λ c. search needs)
+    (λ c. search needs)
+    returns
+    (λ c. search needs)
+    returns-2)

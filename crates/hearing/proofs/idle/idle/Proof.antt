@@ -9,15 +9,11 @@ use Rattle.hearing.proofs.idle.idle.Tie as tie
 
 token-requires : tie.Need-token-requires
 token-requires c κs =
-    let at-match-keys1 : tie.At-match-keys1 = search depth 0 in
-    let after-shared-slice-known : tie.After-shared-slice-known = search depth 0 in
     let start : tie.Start = search depth 0 in
     (start .pre .1 .sited, start .pre .1 .room)
 
 responder-requires : tie.Need-responder-requires
 responder-requires c κs =
-    let at-match-keys3 : tie.At-match-keys3 = search depth 0 in
-    let after-shared-slice-known : tie.After-shared-slice-known = search depth 0 in
     let start : tie.Start = search depth 0 in
     start .pre .1 .sited .core .settings
 
@@ -25,8 +21,6 @@ answer-requires : tie.Need-answer-requires
 answer-requires c κs =
     let after-responder : tie.After-responder = search depth 0 in
     let after-f2 : tie.After-f2 = search depth 0 in
-    let at-match-keys3 : tie.At-match-keys3 = search depth 0 in
-    let after-shared-slice-known : tie.After-shared-slice-known = search depth 0 in
     let start : tie.Start = search depth 0 in
     asked (start .pre .0) (after-f2 .f2 .given .1) (after-responder .responder .ensures) (start .pre .1)
 
