@@ -16,7 +16,6 @@ use frame::Address;
 use printed::numeral;
 use printed::phrases;
 use request::Record;
-use ring::Masters;
 use state::Core;
 use state::Phase;
 
@@ -196,10 +195,10 @@ fn joined(masters: &[u8; 127], out: &mut [u8], at: usize) -> usize
 {
     let mut w = at;
     let mut first = true;
-    let mut a = 0;
+    let mut a: u8 = 0;
     while a < 127 {
-        if masters[a] == 1 {
-            w = entry(first, a as u8, out, w);
+        if ring::member(masters, Address(a)) {
+            w = entry(first, a, out, w);
             first = false;
         }
         a += 1;
@@ -213,9 +212,7 @@ fn ns_of(masters: &[u8; 127], ts: Address) -> u8
 {
     let own = ts.0;
     if own < 127 {
-        let all = *masters;
-        let next = ring::next(Masters(all), ts);
-        return next.0;
+        return ring::next(masters, ts).0;
     }
     own
 }

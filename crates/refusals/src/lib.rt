@@ -4,7 +4,7 @@ ghost use mathlib.Core.Path.{_≡_};
 ghost use Prim.Native.Nat.{_*_, _<_};
 ghost use lib.ListN.{length};
 ghost use Rattle.choice.specs.Choice.{same};
-ghost use Rattle.ring.specs.Ring.{member, nextOf};
+ghost use Rattle.ring.specs.Ring.{nextOf};
 ghost use Rattle.state.specs.World.{Rows, queueOf};
 ghost use Rattle.state.specs.Refusals.{Lawful, oddIn, unlikeIn, inFlight, refusalIn};
 ghost use Rattle.state.specs.Refusals.{unstartable as Refusals·unstartable, unlent as Refusals·unlent};
@@ -14,24 +14,12 @@ ghost use Rattle.state.specs.Refusals.{lawless as Refusals·lawless, unsound as
 use frame::Address;
 use queue::Queue;
 use request::Record;
-use ring::Masters;
 use state::Core;
 use state::Kept;
 use state::Phase;
 use state::Priority;
 use state::UPDATE;
 use times::Settings;
-
-fn among(masters: &[u8; 127], ts: u8) -> bool
-    requires { ⌜ ts < 127 ⌝ }
-    ensures { λ r. ⌜ r ≡ member (now (masters .entry)) ts ⌝ }
-{
-    if masters[frame::wide(ts)] == 1 {
-        true
-    } else {
-        false
-    }
-}
 
 // Whether start refuses settings, TS or the set of masters.
 pub fn unstartable(s: Settings, ts: Address, masters: &[u8; 127]) -> bool
@@ -43,7 +31,7 @@ pub fn unstartable(s: Settings, ts: Address, masters: &[u8; 127]) -> bool
     if 126 < ts.0 {
         return true;
     }
-    if among(masters, ts.0) {
+    if ring::member(masters, ts) {
         return false;
     }
     true
@@ -57,7 +45,7 @@ fn unstarted(c: Core, masters: &[u8; 127], started: &[u8; 127]) -> bool
     if unstartable(settings, ts, masters) {
         return true;
     }
-    if among(started, ts.0) {
+    if ring::member(started, ts) {
         return false;
     }
     true
@@ -106,7 +94,7 @@ fn alone(c: Core, masters: &[u8; 127]) -> bool
     ensures { λ r. ⌜ r ≡ same (nextOf (now (masters .entry)) (c .ts .0)) (c .ts .0) ⌝ }
 {
     let ts = c.ts;
-    let ns = ring::next(Masters(*masters), ts);
+    let ns = ring::next(masters, ts);
     if ns.0 == ts.0 { true } else { false }
 }
 

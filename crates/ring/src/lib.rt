@@ -1,7 +1,8 @@
-// The ring: the set of masters and the search for the next and the previous one, one address after another. Nothing
-// here knows a token. Assumes nothing.
+// The ring: the set of masters, who is in it, enters it and leaves it, and the search for the next and the previous one,
+// one address after another. Nothing here knows a token. Assumes nothing.
 ghost use mathlib.Core.Path.{_≡_};
 ghost use Prim.Native.Nat.{_<_, _≤_};
+ghost use lib.ListN.{set};
 ghost use Rattle.ring.specs.Ring.{on as Ring·on, seek as Ring·seek, nextOf, previousOf, enter as Ring·enter};
 ghost use Rattle.ring.specs.Ring.{remove as Ring·remove, member as Ring·member};
 use frame::Address;
@@ -36,55 +37,52 @@ fn seek(masters: &[u8; 127], step: usize, untried: usize, a: usize) -> usize
     seek(masters, step, untried - 1, b)
 }
 
-// An address as a place of the set.
-fn place(a: Address) -> usize
-    ensures { λ r. ⌜ r ≡ a .0 ⌝ }
-{
-    a.0 as usize
-}
-
 // NS of a station: the next master upward, itself if there is no other.
-pub fn next(m: Masters, ts: Address) -> Address
+pub fn next(masters: &[u8; 127], ts: Address) -> Address
     requires { ⌜ ts .0 < 127 ⌝ }
-    ensures { λ r. ⌜ (r .0 ≡ nextOf (m .0) (ts .0)) × (r .0 < 127) ⌝ }
+    ensures { λ r. ⌜ (r .0 ≡ nextOf (now (masters .entry)) (ts .0)) × (r .0 < 127) ⌝ }
 {
-    let masters = m.0;
-    Address(seek(&masters, 1, 127, place(ts)) as u8)
+    Address(seek(masters, 1, 127, frame::wide(ts.0)) as u8)
 }
 
 // PS of a station at the start: the next master downward.
-pub fn previous(m: Masters, ts: Address) -> Address
+pub fn previous(masters: &[u8; 127], ts: Address) -> Address
     requires { ⌜ ts .0 < 127 ⌝ }
-    ensures { λ r. ⌜ (r .0 ≡ previousOf (m .0) (ts .0)) × (r .0 < 127) ⌝ }
+    ensures { λ r. ⌜ (r .0 ≡ previousOf (now (masters .entry)) (ts .0)) × (r .0 < 127) ⌝ }
 {
-    let masters = m.0;
-    Address(seek(&masters, 126, 127, place(ts)) as u8)
+    Address(seek(masters, 126, 127, frame::wide(ts.0)) as u8)
 }
 
 // Whether a station is in the set.
-pub fn member(m: Masters, a: Address) -> bool
+pub fn member(masters: &[u8; 127], a: Address) -> bool
     requires { ⌜ a .0 < 127 ⌝ }
-    ensures { λ r. ⌜ r ≡ Ring·member (m .0) (a .0) ⌝ }
+    ensures { λ r. ⌜ r ≡ Ring·member (now (masters .entry)) (a .0) ⌝ }
 {
-    let masters = m.0;
-    if masters[place(a)] == 1 { true } else { false }
+    if masters[frame::wide(a.0)] == 1 {
+        true
+    } else {
+        false
+    }
 }
 
-// The set with a station entered, and with one removed.
-pub fn enter(m: Masters, a: Address) -> Masters
-    requires { ⌜ a .0 < 127 ⌝ }
-    ensures { λ r. ⌜ r .0 ≡ Ring·enter (m .0) (a .0) ⌝ }
+// The place of an address in the set is written, if there is such a place.
+fn write_place(masters: &mut [u8], at: usize, m: u8)
+    ensures { λ _. ⌜ now (masters .exit) ≡ set (now (masters .entry)) at m ⌝ }
 {
-    let mut masters = m.0;
-    masters[place(a)] = 1;
-    Masters(masters)
+    if at < masters.len() {
+        masters[at] = m;
+    }
 }
 
-pub fn remove(m: Masters, a: Address) -> Masters
-    requires { ⌜ a .0 < 127 ⌝ }
-    ensures { λ r. ⌜ r .0 ≡ Ring·remove (m .0) (a .0) ⌝ }
+// A station enters the set, and one leaves it.
+pub fn enter(masters: &mut [u8; 127], a: Address)
+    ensures { λ _. ⌜ now (masters .exit) ≡ Ring·enter (now (masters .entry)) (a .0) ⌝ }
 {
-    let mut masters = m.0;
-    masters[place(a)] = 0;
-    Masters(masters)
+    write_place(masters, frame::wide(a.0), 1);
+}
+
+pub fn remove(masters: &mut [u8; 127], a: Address)
+    ensures { λ _. ⌜ now (masters .exit) ≡ Ring·remove (now (masters .entry)) (a .0) ⌝ }
+{
+    write_place(masters, frame::wide(a.0), 0);
 }

@@ -17,7 +17,6 @@ pub mod exchange;
 
 use clock::BitTime;
 use frame::Address;
-use ring::Masters;
 use state::Choice;
 use state::Core;
 use state::Moved;
@@ -154,7 +153,7 @@ pub fn next(c: Core, masters: &[u8; 127]) -> Address
     ensures { λ r. ⌜ (r .0 ≡ nextOf (now (masters .entry)) (c .ts .0)) × (r .0 < 127) ⌝ }
 {
     let ts = c.ts;
-    ring::next(Masters(*masters), ts)
+    ring::next(masters, ts)
 }
 
 // Passes the token to a station.

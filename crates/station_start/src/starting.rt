@@ -27,10 +27,11 @@ fn fresh_core(settings: Settings, ts: Address, masters: Masters, high: Queue, lo
     requires { ⌜ ts .0 < 127 ⌝ }
     ensures { λ r. ⌜ r ≡ freshCore settings (ts .0) (masters .0) high low ⌝ }
 {
+    let set = masters.0;
     Core {
         settings,
         ts,
-        ps: ring::previous(masters, ts),
+        ps: ring::previous(&set, ts),
         stranger: Address(127),
         doing: Doing {
             phase: Phase::Idle,

@@ -6,7 +6,6 @@ ghost use Rattle.times.specs.declared.Reckoned.the-variants.{Refused, Reckon};
 ghost use Rattle.test_parts.specs.Parts.{settingsFrom, flatTimes, reckons, isLeft, nexts, previouses};
 use clock::BitTime;
 use frame::Address;
-use ring::Masters;
 use times::Count;
 use times::Reckoned;
 use times::Sending;
@@ -108,7 +107,7 @@ pub extern "C" fn parts_next(masters: &[u8; 127], ts: u8) -> u8
     if 126 < ts {
         return 255;
     }
-    ring::next(Masters(*masters), Address(ts)).0
+    ring::next(masters, Address(ts)).0
 }
 
 // PS of a station at the start, or 255 if it is none.
@@ -119,5 +118,5 @@ pub extern "C" fn parts_previous(masters: &[u8; 127], ts: u8) -> u8
     if 126 < ts {
         return 255;
     }
-    ring::previous(Masters(*masters), Address(ts)).0
+    ring::previous(masters, Address(ts)).0
 }

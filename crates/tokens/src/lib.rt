@@ -1,8 +1,7 @@
 // How a token is taken in Idle, and how a pass is checked: the acts that change the set of masters. Assumes nothing.
 ghost use mathlib.Core.Path.{_≡_};
 ghost use Prim.Native.Nat.{_<_, _≤_};
-ghost use lib.ListN.{length, set};
-ghost use Rattle.ring.specs.Ring.{enter as Ring·enter, remove as Ring·remove};
+ghost use lib.ListN.{length};
 ghost use mathlib.Core.List.{[], _∷_};
 ghost use Rattle.state.specs.World.{rows, siteOf, withDoing, aToken, sends};
 ghost use Rattle.state.specs.Request.{once, waitFor};
@@ -12,33 +11,10 @@ ghost use Rattle.state.specs.Refusals.{Lawful, Sited};
 ghost use Rattle.state.specs.Told.{Sends, Does, Rechecks};
 use clock::BitTime;
 use frame::Address;
-use ring::Masters;
 use serve::exchange;
 use state::Core;
 use state::Moved;
 use times::Sending;
-
-// A place of the set of masters is set, if there is such a place.
-fn write_member(masters: &mut [u8], at: usize, m: u8)
-    ensures { λ _. ⌜ now (masters .exit) ≡ set (now (masters .entry)) at m ⌝ }
-{
-    if at < masters.len() {
-        masters[at] = m;
-    }
-}
-
-// A station enters the set of masters, and one leaves it.
-fn enter(masters: &mut [u8; 127], a: Address)
-    ensures { λ _. ⌜ now (masters .exit) ≡ Ring·enter (now (masters .entry)) (a .0) ⌝ }
-{
-    write_member(masters, frame::wide(a.0), 1);
-}
-
-fn remove(masters: &mut [u8; 127], a: Address)
-    ensures { λ _. ⌜ now (masters .exit) ≡ Ring·remove (now (masters .entry)) (a .0) ⌝ }
-{
-    write_member(masters, frame::wide(a.0), 0);
-}
 
 // Nothing is sent.
 pub fn quiet(c: Core) -> Moved
@@ -86,7 +62,7 @@ pub fn token(
         return serve::begin(clock, c, masters, marks, high, harea, low, larea, out);
     }
     if a.0 == stranger.0 {
-        enter(masters, a);
+        ring::enter(masters, a);
         let core = acts::with_ps(a, c);
         return serve::begin(clock, core, masters, marks, high, harea, low, larea, out);
     }
@@ -118,7 +94,7 @@ fn ps_without(n: Address, masters: &[u8; 127], c: Core) -> Address
     let ts = c.ts;
     let ps = c.ps;
     if n.0 == ps.0 {
-        return ring::previous(Masters(*masters), ts);
+        return ring::previous(masters, ts);
     }
     ps
 }
@@ -133,7 +109,7 @@ pub fn recheck(c: Core, masters: &mut [u8; 127], out: &mut [u8]) -> Moved
     if d.sendings < 3 {
         return pass_again(ns, c, out);
     }
-    remove(masters, ns);
+    ring::remove(masters, ns);
     let core = acts::with_ps(ps_without(ns, masters, c), c);
     serve::pass_to(serve::next(core, masters), core, out)
 }

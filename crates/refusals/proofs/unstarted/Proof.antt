@@ -11,8 +11,8 @@ returns : tie.Need-returns
 unfolding unstarted
 returns c = search (picks, asked) depth 20
 
-among-requires : tie.Need-among-requires
-among-requires c κs = startable-ts _ _ _ (sym (c .before .unstartable .ensures) ∙ c .if1 .left)
+member-requires : tie.Need-member-requires
+member-requires c κs = startable-ts _ _ _ (sym (c .before .unstartable .ensures) ∙ c .if1 .left)
 
 returns-2 : tie.Need-returns-2
 unfolding unstarted
@@ -24,4 +24,4 @@ returns-3 c = search (picks, asked) depth 20
 
 pub unstarted-spec : {M : Type 1} → statement M
 unstarted-spec =
-    tie.close (tie.spec (λ c κs. search needs) returns among-requires returns-2 returns-3)
+    tie.close (tie.spec (λ c κs. search needs) returns member-requires returns-2 returns-3)

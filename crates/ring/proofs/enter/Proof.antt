@@ -1,15 +1,12 @@
--- `ring::enter` meets its contract: one place changed.
--- Assumes nothing.
+-- `ring::enter` meets its contract: one place changed. Assumes nothing.
 use Rattle.ring.specs.Ring.{enter}
 use borrow.Author.Needs.{needs}
 use Rattle.ring.proofs.enter.Statement.{statement}
 use Rattle.ring.proofs.enter.Tie as tie
 
-pub enter-spec : {M : Type 1} → statement M
+returns : tie.Need-returns
 unfolding enter
-enter-spec =
-    tie.close
-    (tie.spec
-    (λ c κs. search needs)
-    (λ c. search needs)
-    (λ c. cc))
+returns c = rw (← c .before .wide .ensures .0) (c .write-place .ensures)
+
+pub enter-spec : {M : Type 1} → statement M
+enter-spec = tie.close (tie.spec (λ c κs. search needs) (λ c κs. search needs) returns)

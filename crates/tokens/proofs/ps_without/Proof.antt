@@ -8,7 +8,7 @@ use Rattle.tokens.proofs.ps_without.Tie as tie
 
 returns : tie.Need-returns
 unfolding psWithout
-returns c = if-same _ (c .before .before .if1 .taken) (c .previous .ensures .0)
+returns c = if-same _ (c .before .if1 .taken) (c .previous .ensures .0)
 
 returns-2 : tie.Need-returns-2
 unfolding psWithout

@@ -10,7 +10,7 @@ use Rattle.printed.specs.Printed.{nsOf}
 
 returns : tie.Need-returns
 unfolding nsOf
-returns c = if-less _ (omega (arith, c .before .before .if1 .taken)) (c .next .ensures .0)
+returns c = if-less _ (omega (arith, c .before .if1 .taken)) (c .next .ensures .0)
 
 returns-2 : tie.Need-returns-2
 unfolding nsOf
