@@ -64,17 +64,21 @@ module _ (ts : ℕ) (q : Queue) (r : Record) (n : ℕ) (row : List ℕ) (u : Rul
       }
 
 module _ (ts : ℕ) (q : Queue) (r : Record) (x row area : List ℕ) where
-  after : {w : Left Taken} → Sound ts q row → Outcome ts q r x row area w → Sound ts (w .answer .queue) (w .row)
+  after : {w : Left Taken} → Ruled q → Lent q row area → Sound ts q row → Outcome ts q r x row area w
+      → Sound ts (w .answer .queue) (w .row)
   unfolding refuse take
-  after s (as-it-was n z e) = rw (← e) s
-  after s (with-it u l a e) = rw (← e) (sound-filled ts q r (length x) row u (l .places) a s)
+  after u l s (as-it-was n z e) = rw (← e) s
+  after u l s (with-it a e) = rw (← e) (sound-filled ts q r (length x) row u (l .places) a s)
 
-  pub sound-submitted : Sound ts q row → Sound ts (submitted ts q r x row area .answer .queue) (submitted ts q r x row area .row)
-  sound-submitted s = after s (outcome ts q r x row area)
+  pub sound-submitted : Ruled q → Lent q row area → Sound ts q row
+      → Sound ts (submitted ts q r x row area .answer .queue) (submitted ts q r x row area .row)
+  sound-submitted u l s = after u l s (outcome ts q r x row area)
 
   -- as the check itself says it
-  pub checked-submitted : sound ts q row (q .unconfirmed) ≡ true → sound ts (submitted ts q r x row area .answer .queue) (submitted ts q r x row area .row) (submitted ts q r x row area .answer .queue .unconfirmed) ≡ true
-  checked-submitted e = sound-is ts _ _ (sound-submitted (is-sound ts q row e))
+  pub checked-submitted : Ruled q → Lent q row area → sound ts q row (q .unconfirmed) ≡ true
+      → sound ts (submitted ts q r x row area .answer .queue) (submitted ts q r x row area .row)
+      (submitted ts q r x row area .answer .queue .unconfirmed) ≡ true
+  checked-submitted u l e = sound-is ts _ _ (sound-submitted u l (is-sound ts q row e))
 
 -- ---- a confirmation, and a reset
 pending-confirmed : (q : Queue) (row : List ℕ) (k : ℕ) → pending row (confirmed q) k ≡ pending row q (k + 1)

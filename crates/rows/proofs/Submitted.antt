@@ -1,22 +1,21 @@
 -- What submit leaves: how its decision is stored, that a request taken has room, and the two outcomes of the whole call.
 -- Assumes nothing.
 use Prim.Native.Nat.{ℕ, _+_, _*_, _≤_}
-use mathlib.Core.Bool.{Bool, true, false}
-use mathlib.Core.Path.{_≡_, refl, sym, _∙_}
+use mathlib.Core.Path.{_≡_, refl, _∙_}
 use mathlib.Core.List.{List}
 use native.Mathlib.Omega.{arith}
 use lib.ListN.{length}
-use Rattle.choice.proofs.Rules.{if-same, unless-same, asked-true, asked-false}
+use Rattle.choice.proofs.Rules.{if-same, unless-same}
 use Rattle.request.specs.declared.Record.{Record}
 use Rattle.request.specs.Record.{SIZE}
 use Rattle.request.proofs.Laws.{fit-short}
 use Rattle.queue.specs.declared.Queue.{Queue}
 use Rattle.queue.specs.declared.Taken.{Taken}
-use Rattle.queue.specs.Queue.{AREA, Ruled, misfit, overfull, refuse, take, taken, grown}
-use Rattle.queue.proofs.Laws.{ruled, ruled-grown, place-below, Accepted, Decided, decided, not-refused}
+use Rattle.queue.specs.Queue.{AREA, Ruled, refuse, take, taken, grown}
+use Rattle.queue.proofs.Laws.{ruled-grown, place-below, Accepted, Decided, decided, not-refused}
 use Rattle.queue.proofs.Laws.Decided.{refused, accepted}
 use Rattle.rows.specs.Rows.{put, fill, Lent, Left, left, stored, submitted}
-use Rattle.rows.proofs.Laws.{lent, length-put, length-fill}
+use Rattle.rows.proofs.Laws.{length-put, length-fill}
 
 -- ---- the decision stored
 pub stored-refused : (t : Taken) (x row area : List ℕ) → (t .refused ≡ 0 → ⊥) → left t row area ≡ stored t x row area
@@ -43,10 +42,11 @@ room-at ts q r x row area u l a =
       short = omega (arith, fit-short ts r (length x) (a .fit));
     }
 
-pub room : (ts : ℕ) (q : Queue) (r : Record) (x row area : List ℕ) {m o : Bool} {t : Taken} → m ≡ misfit q SIZE (length row) (length area) → m ≡ false → o ≡ overfull q → o ≡ false → t ≡ taken ts q r (length x) → t .refused ≡ 0 → Room (t .place) x row area
-room ts q r x row area e f g h d z =
+pub room : (ts : ℕ) (q : Queue) (r : Record) (x row area : List ℕ) {t : Taken} → Ruled q → Lent q row area
+    → t ≡ taken ts q r (length x) → t .refused ≡ 0 → Room (t .place) x row area
+room ts q r x row area u l d z =
     let a = not-refused ts q r (length x) (rw d at z) in
-    rw (d, ← a .is) (room-at ts q r x row area (ruled q (sym g ∙ h)) (lent q row area (sym e ∙ f)) a)
+    rw (d, ← a .is) (room-at ts q r x row area u l a)
 
 -- ---- the whole call
 -- the request taken, with its record and its data at its place
@@ -57,7 +57,7 @@ took q r x row area =
 -- all is left as it was, with a refusal, or the request is taken
 pub data Outcome (ts : ℕ) (q : Queue) (r : Record) (x row area : List ℕ) (w : Left Taken) : Type 0 where
   as-it-was : (n : ℕ) → (n ≡ 0 → ⊥) → left (refuse n q r) row area ≡ w → Outcome ts q r x row area w
-  with-it : Ruled q → Lent q row area → Accepted ts q r (length x) → took q r x row area ≡ w → Outcome ts q r x row area w
+  with-it : Accepted ts q r (length x) → took q r x row area ≡ w → Outcome ts q r x row area w
 
 refused-so : (n : ℕ) (q : Queue) (r : Record) (x row area : List ℕ) → (n ≡ 0 → ⊥) → left (refuse n q r) row area ≡ stored (refuse n q r) x row area
 unfolding refuse
@@ -68,24 +68,13 @@ unfolding take
 taken-so q r x row area = stored-taken (take q r (length x)) x row area refl refl refl
 
 module _ (ts : ℕ) (q : Queue) (r : Record) (x row area : List ℕ) where
-  outcome-by : (a b : Bool) → misfit q SIZE (length row) (length area) ≡ a → overfull q ≡ b → Decided ts q r (length x) → Outcome ts q r x row area (submitted ts q r x row area)
+  outcome-by : Decided ts q r (length x) → Outcome ts q r x row area (submitted ts q r x row area)
   unfolding submitted
-  outcome-by true b e f d = as-it-was 21 (λ z. omega arith) (asked-true {r = true} _ (sym e) refl (refused-so 21 q r x row area (λ z. omega arith)))
-  outcome-by false true e f d =
-      as-it-was 29 (λ z. omega arith)
-      (asked-false {r = false} _ (sym e) refl
-      (asked-true {r = true} _ (sym f) refl (refused-so 29 q r x row area (λ z. omega arith))))
-  outcome-by false false e f (refused m z g) =
-      as-it-was m z
-      (asked-false {r = false} _ (sym e) refl
-      (asked-false {r = false} _ (sym f) refl (rw (← g) (refused-so m q r x row area z))))
-  outcome-by false false e f (accepted a) =
-      with-it (ruled q f) (lent q row area e) a
-      (asked-false {r = false} _ (sym e) refl
-      (asked-false {r = false} _ (sym f) refl (rw (← a .is) (taken-so q r x row area))))
+  outcome-by (refused m z e) = as-it-was m z (rw (← e) (refused-so m q r x row area z))
+  outcome-by (accepted a) = with-it a (rw (← a .is) (taken-so q r x row area))
 
   pub outcome : Outcome ts q r x row area (submitted ts q r x row area)
-  outcome = outcome-by _ _ refl refl (decided ts q r (length x))
+  outcome = outcome-by (decided ts q r (length x))
 
   -- it keeps the queue's counts in order, and the row and the data area the queue's
   lent-taken : Ruled q → Lent q row area → Accepted ts q r (length x) → Lent (grown q) (took q r x row area .row) (took q r x row area .area)
@@ -100,7 +89,7 @@ module _ (ts : ℕ) (q : Queue) (r : Record) (x row area : List ℕ) where
   keeps : {w : Left Taken} → Outcome ts q r x row area w → Ruled q → Lent q row area → Ruled (w .answer .queue) × Lent (w .answer .queue) (w .row) (w .area)
   unfolding refuse take
   keeps (as-it-was n z e) u l = rw (← e) (u, l)
-  keeps (with-it v m a e) u l = rw (← e) (ruled-grown q (a .room) u, lent-taken u l a)
+  keeps (with-it a e) u l = rw (← e) (ruled-grown q (a .room) u, lent-taken u l a)
 
   pub ruled-submitted : Ruled q → Lent q row area → Ruled (submitted ts q r x row area .answer .queue)
   ruled-submitted u l = keeps outcome u l .0

@@ -5,7 +5,7 @@ use mathlib.Core.Bool.{Bool, true, false}
 use mathlib.Core.Path.{_≡_}
 use mathlib.Core.List.{List, []}
 use lib.ListN.{length}
-use Rattle.choice.specs.Choice.{pick, less, same, said}
+use Rattle.choice.specs.Choice.{pick, same}
 use Rattle.frame.specs.Reading.{part}
 use Rattle.laid.specs.Laid.{laid}
 use Rattle.request.specs.declared.Record.{Record}
@@ -13,8 +13,7 @@ use Rattle.request.specs.Record.{SIZE, DS, octets, recordAt, unfit}
 use Rattle.queue.specs.declared.Queue.{Queue}
 use Rattle.queue.specs.declared.Taken.{Taken}
 use Rattle.queue.specs.declared.Collected.{Collected}
-use Rattle.queue.specs.declared.Collected.the-variants.{Refused}
-use Rattle.queue.specs.Queue.{AREA, place, current, misfit, overfull, closed, refuse, taken, confirmed, collected}
+use Rattle.queue.specs.Queue.{AREA, place, current, closed, taken, confirmed, collected}
 
 -- the record at a place, and the octets of a place's data
 unfoldable pub at : List ℕ → ℕ → Record
@@ -52,12 +51,9 @@ stored t x row area =
     (left t (put row (t .place) (t .entry)) (fill area (t .place) x))
     (left t row area)
 
--- 21, 29 for the queue's own counts, then 23 to 27
+-- 23 to 27, or the request taken: of a row that was not refused 21, and counts not refused 29
 unfoldable pub submitted : ℕ → Queue → Record → List ℕ → List ℕ → List ℕ → Left Taken
-submitted ts q r x row area =
-    pick (said (misfit q SIZE (length row) (length area))) (stored (refuse 21 q r) x row area)
-    (pick (said (overfull q)) (stored (refuse 29 q r) x row area)
-    (stored (taken ts q r (length x)) x row area))
+submitted ts q r x row area = stored (taken ts q r (length x)) x row area
 
 -- ---- a confirmation
 -- the first unconfirmed record gets its status, count and length, and "reply data replace the request's in its place; a
@@ -73,12 +69,9 @@ drain zero count w = w
 drain (suc n) count w = drain n 0 (confirm (w .answer) DS count [] (w .row) (w .area))
 
 -- ---- collect
--- 21, 29 for the queue's own counts, then 28 and 29; the row and its data are left as they are
-unfoldable pub handed : Queue → List ℕ → List ℕ → Collected
-handed q row area =
-    pick (said (misfit q SIZE (length row) (length area))) (Refused 21)
-    (pick (said (overfull q)) (Refused 29)
-    (collected q (at row (q .first))))
+-- 28 and 29, or the oldest confirmed record, of a row and counts likewise; the row and its data are left as they are
+unfoldable pub handed : Queue → List ℕ → Collected
+handed q row = collected q (at row (q .first))
 
 -- ---- the record part of 29
 -- the record k places behind the first unconfirmed one

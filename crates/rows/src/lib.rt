@@ -42,15 +42,10 @@ fn fill(area: &mut [u8], place: u8, x: &[u8])
 
 // Submits a request with its data.
 pub fn submit(ts: Address, q: Queue, r: Record, x: &[u8], row: &mut [u8], area: &mut [u8]) -> Taken
+    requires { ⌜ (Ruled q) × (Lent q (now row) (now area)) ⌝ }
     ensures { λ t. ⌜ left t (now (row .exit)) (now (area .exit))
         ≡ submitted (ts .0) q r (now (x .entry)) (now (row .entry)) (now (area .entry)) ⌝ }
 {
-    if queue::misfit(q, SIZE, row.len(), area.len()) {
-        return queue::refuse(21, q, r);
-    }
-    if queue::overfull(q) {
-        return queue::refuse(29, q, r);
-    }
     let t = queue::take(ts, q, r, x.len());
     if t.refused != 0 {
         return t;
@@ -90,15 +85,10 @@ pub fn drain(q: Queue, count: u8, row: &mut [u8], area: &mut [u8]) -> Queue
 }
 
 // Hands back the oldest confirmed record and its place's number.
-pub fn collect(q: Queue, row: &[u8], area: &[u8]) -> Collected
-    ensures { λ r. ⌜ r ≡ handed q (now (row .entry)) (now (area .entry)) ⌝ }
+pub fn collect(q: Queue, row: &[u8]) -> Collected
+    requires { ⌜ (Ruled q) × (length (now row) ≡ 7 * q .places) ⌝ }
+    ensures { λ r. ⌜ r ≡ handed q (now (row .entry)) ⌝ }
 {
-    if queue::misfit(q, SIZE, row.len(), area.len()) {
-        return Collected::Refused(21);
-    }
-    if queue::overfull(q) {
-        return Collected::Refused(29);
-    }
     queue::collect(q, at(row, q.first))
 }
 

@@ -136,7 +136,7 @@ named-after : (ts : ℕ) (q : Queue) (e : Record) (x row area : List ℕ) {l : L
     → length row ≡ SIZE * q .places → Named q row → Outcome ts q e x row area l → Named (l .answer .queue) (l .row)
 unfolding refuse take
 named-after ts q e x row area u l z (as-it-was n d i) = rw (← i) z
-named-after ts q e x row area u l z (with-it v m a i) = rw (← i) (named-grown q row u l z _ (a .room))
+named-after ts q e x row area u l z (with-it a i) = rw (← i) (named-grown q row u l z _ (a .room))
 
 filed-submitted : (ts : ℕ) (q : Queue) (r : Rows) (e : Record) (x : List ℕ) → Filed ts q r
     → Filed ts (submitted ts q e x (r .row) (r .area) .answer .queue)
@@ -146,7 +146,7 @@ filed-submitted ts q r e x k =
     record {
       ruled = ruled-submitted ts q e x (r .row) (r .area) (k .ruled) (k .lent);
       lent = lent-submitted ts q e x (r .row) (r .area) (k .ruled) (k .lent);
-      sound = sound-submitted ts q e x (r .row) (r .area) (k .sound);
+      sound = sound-submitted ts q e x (r .row) (r .area) (k .ruled) (k .lent) (k .sound);
       status =
           named-after ts q e x (r .row) (r .area) (k .ruled) (k .lent .places) (k .status)
           (outcome ts q e x (r .row) (r .area));

@@ -15,8 +15,7 @@ use Rattle.queue.specs.declared.Taken.{Taken}
 use Rattle.queue.specs.declared.Collected.{Collected}
 use Rattle.queue.specs.declared.Collected.the-variants.{Refused as Uncollected, Handed}
 use Rattle.queue.specs.Queue as Q
-use Rattle.queue.specs.Queue.{Ruled, taken, take}
-use Rattle.queue.proofs.Laws.{not-overfull}
+use Rattle.queue.specs.Queue.{taken, take}
 use Rattle.rows.specs.Rows.{Left, at, stored, submitted, handed}
 use Rattle.state.specs.declared.Priority.{Priority}
 use Rattle.state.specs.declared.Priority.the-variants.{High, Low}
@@ -132,13 +131,10 @@ stored-not : (t : Taken) (x row area : List ℕ) → (t .refused ≡ 29 → ⊥)
 unfolding stored
 stored-not t x row area h = by (λ (l : Left Taken). l .answer .refused ≡ 29 → ⊥) _ _ _ (λ e. h) (λ e. h)
 
-submitted-not : (ts : ℕ) (q : Queue) (r : Record) (x row area : List ℕ) → Ruled q
+submitted-not : (ts : ℕ) (q : Queue) (r : Record) (x row area : List ℕ)
     → submitted ts q r x row area .answer .refused ≡ 29 → ⊥
-unfolding submitted Q.refuse
-submitted-not ts q r x row area u =
-    by (λ (l : Left Taken). l .answer .refused ≡ 29 → ⊥) _ _ _ (λ e. stored-not _ x row area (λ z. omega arith))
-    (λ e. by (λ (l : Left Taken). l .answer .refused ≡ 29 → ⊥) _ _ _ (λ e. absurd (true≢false (sym (is-said e) ∙ not-overfull q u)))
-    (λ e. stored-not _ x row area (taken-not ts q r (length x))))
+unfolding submitted
+submitted-not ts q r x row area = stored-not _ x row area (taken-not ts q r (length x))
 
 spared-submitting : (y : Priority) (l : Left Taken) (w : World) → (l .answer .refused ≡ 29 → ⊥)
     → Spared (called (submitting y l (w .site)) w)
@@ -157,15 +153,13 @@ first-named : (ts : ℕ) (q : Queue) (r : Rows) → Filed ts q r → (q .confirm
 first-named ts q r k h = rw (place-first q (k .ruled)) at (k .status .name 0 (omega (arith, h)))
 
 spared-collecting : (y : Priority) (ts : ℕ) (q : Queue) (r : Rows) (w : World) → Filed ts q r
-    → Spared (called (collecting y (handed q (r .row) (r .area)) (w .site)) w)
+    → Spared (called (collecting y (handed q (r .row)) (w .site)) w)
 unfolding handed Q.collected
 spared-collecting y ts q r w k =
     by (λ (c : Collected). Spared (called (collecting y c (w .site)) w)) _ _ _
-    (λ e. spared-uncollected y 21 w (λ z. omega arith))
-    (λ e. by (λ (c : Collected). Spared (called (collecting y c (w .site)) w)) _ _ _ (λ e. absurd (true≢false (sym (is-said e) ∙ not-overfull q (k .ruled))))
-    (λ e. by (λ (c : Collected). Spared (called (collecting y c (w .site)) w)) _ _ _ (λ e. spared-uncollected y 28 w (λ z. omega arith))
+    (λ e. spared-uncollected y 28 w (λ z. omega arith))
     (λ e. by (λ (c : Collected). Spared (called (collecting y c (w .site)) w)) _ _ _ (λ i. spared-collected y _ _ _ w)
-    (λ i. absurd (true≢false (sym (first-named ts q r k (false-same _ _ e)) ∙ is-said i))))))
+    (λ i. absurd (true≢false (sym (first-named ts q r k (false-same _ _ e)) ∙ is-said i))))
 
 -- ---- any call of a station in order
 module _ (t : Settings) (ts : ℕ) (w : World) (o : Orderly t ts w) where
@@ -180,11 +174,11 @@ module _ (t : Settings) (ts : ℕ) (w : World) (o : Orderly t ts w) where
   spared-submit High r x =
       by Spared _ _ _ (λ e. not-21)
       (λ e. by Spared _ _ _ (λ e. lawful e)
-      (λ e. spared-submitting High _ w (submitted-not _ _ r x _ _ (o .firm .high .ruled))))
+      (λ e. spared-submitting High _ w (submitted-not _ _ r x _ _)))
   spared-submit Low r x =
       by Spared _ _ _ (λ e. not-21)
       (λ e. by Spared _ _ _ (λ e. lawful e)
-      (λ e. spared-submitting Low _ w (submitted-not _ _ r x _ _ (o .firm .low .ruled))))
+      (λ e. spared-submitting Low _ w (submitted-not _ _ r x _ _)))
 
   spared-collect : (y : Priority) → Spared (Calls.collect y w)
   unfolding Calls.collect queueOf rowsOf

@@ -324,29 +324,24 @@ course-submit : (y : Priority) (r : Record) (x : List ℕ) (w : World)
 unfolding submitting done take Q.refuse
 course-submit y r x w (as-it-was n z e) =
     rw (← e) (by (λ (d : Done). Course w (called d w)) _ _ _ (λ b. absurd (z (true-same n 0 b))) (λ b. spurned n w))
-course-submit y r x w (with-it u v a e) =
+course-submit y r x w (with-it a e) =
     rw (← e)
     (by (λ (d : Done). Course w (called d w)) _ _ _
     (λ b. carried (carried-called _ w (record { trail = act (Acts.takes y r x (w .site) a e) stop })))
     (λ b. spurned 0 w))
 
 -- a fact of what a queue hands back: of every refusal, and of its oldest confirmed record
-pub handed-back : (P : Collected → Type 0) (q : Queue) (row area : List ℕ) → ((n : ℕ) → P (Uncollected n))
-    → (0 < q .confirmed → P (Handed (q .first) (at row (q .first)) (freed q))) → P (handed q row area)
+pub handed-back : (P : Collected → Type 0) (q : Queue) (row : List ℕ) → ((n : ℕ) → P (Uncollected n))
+    → (0 < q .confirmed → P (Handed (q .first) (at row (q .first)) (freed q))) → P (handed q row)
 unfolding handed Q.collected
-handed-back P q row area f g =
-    by P _ _ _ (λ e. f 21)
-    (λ e. by P _ _ _ (λ e. f 29)
-    (λ e. by P _ _ _ (λ e. f 28) (λ e. by P _ _ _ (λ i. g (positive _ (false-same _ _ e))) (λ i. f 29))))
+handed-back P q row f g =
+    by P _ _ _ (λ e. f 28) (λ e. by P _ _ _ (λ i. g (positive _ (false-same _ _ e))) (λ i. f 29))
 
 pub course-collect : (y : Priority) (w : World)
-    → Course w
-    (called
-    (collecting y (handed (queueOf y (w .site .core)) (rowsOf y (w .site) .row) (rowsOf y (w .site) .area))
-    (w .site)) w)
+    → Course w (called (collecting y (handed (queueOf y (w .site .core)) (rowsOf y (w .site) .row)) (w .site)) w)
 unfolding collecting done
 course-collect y w =
-    handed-back (λ (c : Collected). Course w (called (collecting y c (w .site)) w)) _ _ _ (λ n. spurned n w)
+    handed-back (λ (c : Collected). Course w (called (collecting y c (w .site)) w)) _ _ (λ n. spurned n w)
     (λ h. carried (carried-called _ w (record { trail = act (Acts.hands y (w .site) h) stop })))
 
 pub course : (c : Call) (w : World) → Course w (call c w)

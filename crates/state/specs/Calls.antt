@@ -136,7 +136,7 @@ unfoldable pub collect : Priority → World → Called
 collect p w =
     pick (said (unlent (queueOf p (w .site .core)) (rowsOf p (w .site)))) (refuse 21 w)
     (pick (said (lawless (w .site .core) (w .site .masters) (w .started) (w .memory .kept))) (refuse 29 w)
-    (called (collecting p (handed (queueOf p (w .site .core)) (rowsOf p (w .site) .row) (rowsOf p (w .site) .area)) (w .site)) w))
+    (called (collecting p (handed (queueOf p (w .site .core)) (rowsOf p (w .site) .row)) (w .site)) w))
 
 -- ---- frame
 -- what this master answers as: TS, "type 3" in ring, "min TSDR before a reply"

@@ -5,14 +5,14 @@ use mathlib.Core.Bool.{Bool, true, false}
 use mathlib.Core.Path.{_≡_, refl, sym, ap, _∙_}
 use mathlib.Core.List.{List, [], _∷_}
 use Rattle.choice.specs.Choice.{pick, said, same}
-use Rattle.choice.proofs.Rules.{pick-true, pick-false, same-true, same-false}
+use Rattle.choice.proofs.Rules.{pick-true, pick-false, same-true, same-false, passed, is-said}
 use Rattle.request.specs.declared.Record.{Record}
 use Rattle.queue.specs.declared.Queue.{Queue}
 use Rattle.queue.specs.declared.Taken.{Taken}
 use Rattle.queue.specs.declared.Collected.{Collected}
 use Rattle.queue.specs.declared.Collected.the-variants.{Refused, Handed}
-use Rattle.queue.specs.Queue.{refuse, take}
-use Rattle.rows.specs.Rows.{Left, left}
+use Rattle.queue.specs.Queue.{Ruled, refuse, take}
+use Rattle.rows.specs.Rows.{Lent, Left, left}
 use Rattle.rows.proofs.Submitted.{Outcome, outcome}
 use Rattle.rows.proofs.Submitted.Outcome.{as-it-was, with-it}
 use Rattle.state.specs.declared.Priority.{Priority}
@@ -26,6 +26,7 @@ use Rattle.state.specs.Refusals.{unlent, lawless}
 use Rattle.state.specs.Calls.{noRows, called, submitting, collecting}
 use Rattle.state.specs.Calls as Calls
 use Rattle.state.specs.Told.{telling, adds, untold, lent, acceptedOf, submittedOf, handedBackOf, handOf}
+use Rattle.refusals.proofs.Facts.{lent-rows, lawful, ruled-of}
 use Rattle.station_queues.specs.Decided.{refusalOf, taking, handing}
 
 -- two refusals and what follows them, each held against what it stands for
@@ -42,7 +43,7 @@ refusing p k q n row area w h = ap (λ (d : Done). called d w) (pick-false _ _ h
 
 -- the call, by what it decided
 module _ (s : State) (n : Record) (x : List ℕ) (r : Rows) where
-  submit-by : (p : Priority) → called (submitting p (taking (queueOf p (s .core)) (s .core) (s .masters .0) (s .started .0) (s .memory .kept) n x r) (lent p s r .site)) (lent p s r) ≡ Calls.submit p n x (lent p s r)
+  submit-by : (p : Priority) → called (submitting p (taking p (s .core) (s .masters .0) (s .started .0) (s .memory .kept) n x r) (lent p s r .site)) (lent p s r) ≡ Calls.submit p n x (lent p s r)
   unfolding Calls.submit taking refusalOf lent worldOf rowsOf queueOf
   submit-by High =
       both-of (λ (t : Left Taken). called (submitting High t (worldOf s r noRows .site)) (worldOf s r noRows)) (λ (k : ℕ). left (refuse k (s .core .high) n) (r .row) (r .area)) _ _ _ (refusing High 21 _ n _ _ _ (same-false (omega arith))) (refusing High 29 _ n _ _ _ (same-false (omega arith)))
@@ -64,27 +65,36 @@ left-accepted Low k q row area s r = refl
 submitted-kept : (ts : ℕ) (q : Queue) (n : Record) (x row area : List ℕ) {w : Left Taken} → Outcome ts q n x row area w → (w .answer .refused ≡ 0 → ⊥) → (w .row ≡ row) × (w .area ≡ area)
 unfolding take
 submitted-kept ts q n x row area (as-it-was k z e) h = rw (← e) (refl, refl)
-submitted-kept ts q n x row area (with-it u l a e) h = absurd (h (rw (← e)))
+submitted-kept ts q n x row area (with-it a e) h = absurd (h (rw (← e)))
 
-module _ (q : Queue) (c : Core) (masters started : List ℕ) (k : Kept) (n : Record) (x : List ℕ) (r : Rows) where
-  taking-kept-by : (u l : Bool) → unlent q r ≡ u → lawless c masters started k ≡ l → (taking q c masters started k n x r .answer .refused ≡ 0 → ⊥) → (taking q c masters started k n x r .row ≡ r .row) × (taking q c masters started k n x r .area ≡ r .area)
+module _ (p : Priority) (c : Core) (masters started : List ℕ) (k : Kept) (n : Record) (x : List ℕ) (r : Rows) where
+  taking-kept-by : (u l : Bool) → unlent (queueOf p c) r ≡ u → lawless c masters started k ≡ l → (taking p c masters started k n x r .answer .refused ≡ 0 → ⊥) → (taking p c masters started k n x r .row ≡ r .row) × (taking p c masters started k n x r .area ≡ r .area)
   unfolding taking refusalOf pick same said
   taking-kept-by true l e f h = rw e (refl, refl)
   taking-kept-by false true e f h = rw (e, f) (refl, refl)
   taking-kept-by false false e f h = rw (e, f) (submitted-kept _ _ n x _ _ (outcome _ _ n x _ _) (rw (e, f) at h))
 
-  taking-kept : (taking q c masters started k n x r .answer .refused ≡ 0 → ⊥) → (taking q c masters started k n x r .row ≡ r .row) × (taking q c masters started k n x r .area ≡ r .area)
+  taking-kept : (taking p c masters started k n x r .answer .refused ≡ 0 → ⊥) → (taking p c masters started k n x r .row ≡ r .row) × (taking p c masters started k n x r .area ≡ r .area)
   taking-kept h = taking-kept-by _ _ refl refl h
 
+-- where neither refuses, the queue's counts are in order, and the row and the data area are its own
+pub unrefused-lent : (p : Priority) (c : Core) (masters started : List ℕ) (k : Kept) (r : Rows)
+    → refusalOf (queueOf p c) c masters started k r ≡ 0 → Ruled (queueOf p c) × Lent (queueOf p c) (r .row) (r .area)
+unfolding refusalOf
+unrefused-lent p c masters started k r e =
+    let u = passed _ 21 _ (omega arith) e in
+    let l = passed _ 29 _ (omega arith) (u .1) in
+    (ruled-of c p (lawful c masters started k (is-said (l .0))), lent-rows (queueOf p c) r (is-said (u .0)))
+
 -- the call, refused and carried out, by what the code finds
-module _ (s : State) (p : Priority) (n : Record) (x row area : List ℕ) {q : Queue} {t : Taken} {row′ area′ : List ℕ} (a : q ≡ queueOf p (s .core)) (e : left t row′ area′ ≡ taking q (s .core) (s .masters .0) (s .started .0) (s .memory .kept) n x (rows row area)) where
+module _ (s : State) (p : Priority) (n : Record) (x row area : List ℕ) {t : Taken} {row′ area′ : List ℕ} (e : left t row′ area′ ≡ taking p (s .core) (s .masters .0) (s .started .0) (s .memory .kept) n x (rows row area)) where
   by-decision : submittedOf p (called (submitting p (left t row′ area′) (lent p s (rows row area) .site)) (lent p s (rows row area))) ≡ submittedOf p (Calls.submit p n x (lent p s (rows row area)))
-  by-decision = rw (e, a) (ap (submittedOf p) (submit-by s n x (rows row area) p))
+  by-decision = rw e (ap (submittedOf p) (submit-by s n x (rows row area) p))
 
   pub submit-refused : (t .refused ≡ 0 → ⊥) → left (record { refused = t .refused; state = s; place = 0 }) row′ area′ ≡ submittedOf p (Calls.submit p n x (lent p s (rows row area)))
   unfolding submitting
   submit-refused h =
-      let k = taking-kept q (s .core) (s .masters .0) (s .started .0) (s .memory .kept) n x (rows row area) (rw (← e) h) in
+      let k = taking-kept p (s .core) (s .masters .0) (s .started .0) (s .memory .kept) n x (rows row area) (rw (← e) h) in
       rw (ap (λ (l : Left Taken). l .row) e ∙ k .0, ap (λ (l : Left Taken). l .area) e ∙ k .1)
       (sym (left-refused p (t .refused) s (rows row area)) ∙ ap (λ (d : Done). submittedOf p (called d (lent p s (rows row area)))) (sym (pick-false _ _ (same-false h))) ∙ by-decision)
 
@@ -100,8 +110,8 @@ unfolding called collecting done withSite Calls.refuse
 uncollecting p k w = refl
 
 module _ (s : State) (r : Rows) where
-  collect-by : (p : Priority) → called (collecting p (handing (queueOf p (s .core)) (s .core) (s .masters .0) (s .started .0) (s .memory .kept) r) (lent p s r .site)) (lent p s r) ≡ Calls.collect p (lent p s r)
-  unfolding Calls.collect handing refusalOf lent worldOf rowsOf
+  collect-by : (p : Priority) → called (collecting p (handing p (s .core) (s .masters .0) (s .started .0) (s .memory .kept) r) (lent p s r .site)) (lent p s r) ≡ Calls.collect p (lent p s r)
+  unfolding Calls.collect handing refusalOf lent worldOf rowsOf queueOf
   collect-by High =
       both-of (λ (c : Collected). called (collecting High c (worldOf s r noRows .site)) (worldOf s r noRows)) Refused _ _ _ (uncollecting High 21 _) (uncollecting High 29 _)
   collect-by Low =
@@ -115,9 +125,9 @@ handed-by Low (Refused k) s r = refl
 handed-by Low (Handed k n q) s r = refl
 
 -- the call, by what the code finds: nothing to hand back, or a record
-module _ (s : State) (p : Priority) (row area : List ℕ) {q : Queue} {c : Collected} (a : q ≡ queueOf p (s .core)) (e : c ≡ handing q (s .core) (s .masters .0) (s .started .0) (s .memory .kept) (rows row area)) where
+module _ (s : State) (p : Priority) (row area : List ℕ) {c : Collected} (e : c ≡ handing p (s .core) (s .masters .0) (s .started .0) (s .memory .kept) (rows row area)) where
   collect-hand : handOf p c s ≡ handedBackOf (Calls.collect p (lent p s (rows row area)))
-  collect-hand = rw (e, a) (handed-by p _ s (rows row area) ∙ ap handedBackOf (collect-by s (rows row area) p))
+  collect-hand = rw e (handed-by p _ s (rows row area) ∙ ap handedBackOf (collect-by s (rows row area) p))
 
   pub collect-refused : {k : ℕ} {n : Record} → c ≡ Refused k → n ≡ untold .entry → record { refused = k; state = s; place = 0; entry = n } ≡ handedBackOf (Calls.collect p (lent p s (rows row area)))
   unfolding handOf

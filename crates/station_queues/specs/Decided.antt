@@ -9,9 +9,10 @@ use Rattle.queue.specs.declared.Collected.{Collected}
 use Rattle.queue.specs.declared.Collected.the-variants.{Refused}
 use Rattle.queue.specs.Queue.{refuse}
 use Rattle.rows.specs.Rows.{Left, left, submitted, handed}
+use Rattle.state.specs.declared.Priority.{Priority}
 use Rattle.state.specs.declared.Core.{Core}
 use Rattle.state.specs.declared.Kept.{Kept}
-use Rattle.state.specs.World.{Rows}
+use Rattle.state.specs.World.{Rows, queueOf}
 use Rattle.state.specs.Refusals.{unlent, lawless}
 
 -- 21 for the row, 29 for the state; 0 is none
@@ -22,14 +23,14 @@ refusalOf q c masters started k w =
     0)
 
 -- what the row's own submit says, unless that refuses; likewise of collect
-unfoldable pub taking : Queue → Core → List ℕ → List ℕ → Kept → Record → List ℕ → Rows → Left Taken
-taking q c masters started k r x w =
-    pick (same (refusalOf q c masters started k w) 0)
-    (submitted (c .ts .0) q r x (w .row) (w .area))
-    (left (refuse (refusalOf q c masters started k w) q r) (w .row) (w .area))
+unfoldable pub taking : Priority → Core → List ℕ → List ℕ → Kept → Record → List ℕ → Rows → Left Taken
+taking p c masters started k r x w =
+    pick (same (refusalOf (queueOf p c) c masters started k w) 0)
+    (submitted (c .ts .0) (queueOf p c) r x (w .row) (w .area))
+    (left (refuse (refusalOf (queueOf p c) c masters started k w) (queueOf p c) r) (w .row) (w .area))
 
-unfoldable pub handing : Queue → Core → List ℕ → List ℕ → Kept → Rows → Collected
-handing q c masters started k w =
-    pick (same (refusalOf q c masters started k w) 0)
-    (handed q (w .row) (w .area))
-    (Refused (refusalOf q c masters started k w))
+unfoldable pub handing : Priority → Core → List ℕ → List ℕ → Kept → Rows → Collected
+handing p c masters started k w =
+    pick (same (refusalOf (queueOf p c) c masters started k w) 0)
+    (handed (queueOf p c) (w .row))
+    (Refused (refusalOf (queueOf p c) c masters started k w))

@@ -43,7 +43,7 @@ fn refusal(
 
 // What submit decides, and puts in the row and the data area.
 fn taking(
-    q: Queue,
+    p: Priority,
     c: Core,
     masters: &[u8; 127],
     started: &[u8; 127],
@@ -54,10 +54,11 @@ fn taking(
     area: &mut [u8],
 ) -> Taken
     ensures { λ t. ⌜ left t (now (row .exit)) (now (area .exit))
-        ≡ Decided·taking q c (now (masters .entry)) (now (started .entry)) k r (now (x .entry))
+        ≡ Decided·taking p c (now (masters .entry)) (now (started .entry)) k r (now (x .entry))
         (rows (now (row .entry)) (now (area .entry))) ⌝ }
 {
     let ts = c.ts;
+    let q = acts::queue_of(p, c);
     let n = refusal(q, c, masters, started, k, row, area);
     if n != 0 {
         return queue::refuse(n, q, r);
@@ -83,8 +84,7 @@ pub fn submit(
     let started = s.started.0;
     let kept = s.memory.kept;
     let mut state = s;
-    let q = acts::queue_of(p, core);
-    let t = taking(q, core, &masters, &started, kept, r, x, row, area);
+    let t = taking(p, core, &masters, &started, kept, r, x, row, area);
     let queue = t.queue;
     if t.refused != 0 {
         return Accepted {
@@ -103,7 +103,7 @@ pub fn submit(
 
 // What collect decides.
 fn handing(
-    q: Queue,
+    p: Priority,
     c: Core,
     masters: &[u8; 127],
     started: &[u8; 127],
@@ -112,14 +112,15 @@ fn handing(
     area: &[u8],
 ) -> Collected
     ensures { λ r. ⌜ r
-        ≡ Decided·handing q c (now (masters .entry)) (now (started .entry)) k
+        ≡ Decided·handing p c (now (masters .entry)) (now (started .entry)) k
         (rows (now (row .entry)) (now (area .entry))) ⌝ }
 {
+    let q = acts::queue_of(p, c);
     let n = refusal(q, c, masters, started, k, row, area);
     if n != 0 {
         return Collected::Refused(n);
     }
-    rows::collect(q, row, area)
+    rows::collect(q, row)
 }
 
 // The record that stands for none.
@@ -146,8 +147,7 @@ pub fn collect(s: State, p: Priority, row: &[u8], area: &[u8]) -> HandedBack
     let started = s.started.0;
     let kept = s.memory.kept;
     let mut state = s;
-    let q = acts::queue_of(p, core);
-    match handing(q, core, &masters, &started, kept, row, area) {
+    match handing(p, core, &masters, &started, kept, row, area) {
         Collected::Refused(n) => HandedBack {
             refused: n,
             state,

@@ -79,16 +79,20 @@ flatCollected q (Handed place r rest) =
       unconfirmed = rest .unconfirmed;
     }
 
+-- 21 and 29 of a queue, by the lengths of its row and data area
+unfoldable pub unlent : Queue → ℕ → ℕ → ℕ
+unlent q row area = pick (said (misfit q SIZE row area)) 21 (pick (said (overfull q)) 29 0)
+
 -- what submit leaves, with its answer in numbers
 unfoldable pub flatSubmitted : Left Taken → Left FlatQueue
 flatSubmitted w = left (flatTaken (w .answer)) (w .row) (w .area)
 
+-- 21 and 29 of the queue, then 23 to 27; refused, all is as it was
 unfoldable pub submits : ℕ → Queue → Record → List ℕ → List ℕ → List ℕ → Left FlatQueue
-submits ts q r x row area = flatSubmitted (submitted ts q r x row area)
-
--- 21 and 29 of a queue, by the lengths of its row and data area
-unfoldable pub unlent : Queue → ℕ → ℕ → ℕ
-unlent q row area = pick (said (misfit q SIZE row area)) 21 (pick (said (overfull q)) 29 0)
+submits ts q r x row area =
+    pick (same (unlent q (length row) (length area)) 0)
+    (flatSubmitted (submitted ts q r x row area))
+    (left (flatQueue (unlent q (length row) (length area)) q) row area)
 
 -- what a confirmation leaves, with its answer in numbers; refused, all is as it was: 28 is given for none unconfirmed, 26
 -- for data over 246
@@ -109,8 +113,12 @@ drains q count row area =
     (flatConfirmed (drain (q .unconfirmed) count (left q row area)))
     (left (flatQueue (unlent q (length row) (length area)) q) row area)
 
+-- 21 and 29 of the queue, then 28 and 29
 unfoldable pub collects : Queue → List ℕ → List ℕ → FlatCollected
-collects q row area = flatCollected q (handed q row area)
+collects q row area =
+    pick (same (unlent q (length row) (length area)) 0)
+    (flatCollected q (handed q row))
+    (flatCollected q (Refused (unlent q (length row) (length area))))
 
 -- 29 is also given for an unconfirmed record that submit would refuse
 unfoldable pub sounds : ℕ → Queue → List ℕ → List ℕ → ℕ

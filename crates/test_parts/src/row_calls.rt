@@ -1,5 +1,5 @@
 // The calls on a row for the tests outside Rattle, as C functions. Numbers go in and structs of numbers come out; every
-// input has an answer: where a call has a requirement, it is refused here. Assumes nothing.
+// input has an answer: what a call requires of the queue, the row and the data is asked here first. Assumes nothing.
 ghost use mathlib.Core.Path.{_≡_};
 ghost use Rattle.queue.specs.declared.Collected.the-variants.{Refused, Handed};
 ghost use Rattle.rows.specs.Rows.{left};
@@ -65,6 +65,19 @@ fn flat_taken(t: Taken) -> FlatQueue
     }
 }
 
+// The refusal 21 or 29 of a queue, with a row and a data area of these lengths, or 0.
+fn unlent(q: Queue, row: usize, area: usize) -> u8
+    ensures { λ r. ⌜ r ≡ Calls·unlent q row area ⌝ }
+{
+    if queue::misfit(q, 7, row, area) {
+        return 21;
+    }
+    if queue::overfull(q) {
+        return 29;
+    }
+    0
+}
+
 // Submits a request with its data.
 #[no_mangle]
 pub extern "C" fn parts_submit(
@@ -91,6 +104,10 @@ pub extern "C" fn parts_submit(
         confirmed,
         unconfirmed,
     };
+    let refused = unlent(q, row.len(), area.len());
+    if refused != 0 {
+        return flat_queue(refused, q);
+    }
     let r = Record {
         service,
         destination: Address(destination),
@@ -101,19 +118,6 @@ pub extern "C" fn parts_submit(
         count: 0,
     };
     flat_taken(rows::submit(Address(ts), q, r, x, row, area))
-}
-
-// The refusal 21 or 29 of a queue, with a row and a data area of these lengths, or 0.
-fn unlent(q: Queue, row: usize, area: usize) -> u8
-    ensures { λ r. ⌜ r ≡ Calls·unlent q row area ⌝ }
-{
-    if queue::misfit(q, 7, row, area) {
-        return 21;
-    }
-    if queue::overfull(q) {
-        return 29;
-    }
-    0
 }
 
 // Confirms the first unconfirmed request, with the reply's data; 28 stands for none unconfirmed, 26 for too many data.
@@ -236,7 +240,11 @@ pub extern "C" fn parts_collect(
         confirmed,
         unconfirmed,
     };
-    match rows::collect(q, row, area) {
+    let refused = unlent(q, row.len(), area.len());
+    if refused != 0 {
+        return unhanded(refused, q);
+    }
+    match rows::collect(q, row) {
         Collected::Refused(n) => unhanded(n, q),
         Collected::Handed {
             place,

@@ -6,17 +6,16 @@ use Rattle.station_queues.proofs.submit.Statement.{statement}
 use Rattle.station_queues.proofs.submit.Tie as tie
 
 returns : tie.Need-returns
-returns c = submit-refused _ _ _ _ _ _ (c .before .before .before .before .before .before .before .before .before .before .before .before .queue-of .ensures) (c .before .before .before .before .before .before .before .taking .ensures) (c .if1 .taken)
+returns c = submit-refused _ _ _ _ _ _ (c .before .before .before .before .before .before .before .taking .ensures) (c .if1 .taken)
 
 returns-2 : tie.Need-returns-2
 unfolding stateWith
-returns-2 c = submit-taken _ _ _ _ _ _ (c .before .before .before .before .before .before .before .before .before .before .before .before .before .queue-of .ensures) (c .before .before .before .before .before .before .before .before .taking .ensures) (c .before .if1 .left) (c .with-queue .ensures)
+returns-2 c = submit-taken _ _ _ _ _ _ (c .before .before .before .before .before .before .before .before .taking .ensures) (c .before .if1 .left) (c .with-queue .ensures)
 
 pub submit-spec : {M : Type 1} → statement M
 submit-spec =
     tie.close
     (tie.spec
-    (λ c κs. search needs)
     (λ c κs. search needs)
     (λ c. search needs)
     (λ c. search needs)

@@ -1,5 +1,7 @@
 -- `station_queues::taking` meets its contract. Assumes nothing.
+use mathlib.Core.Path.{sym, _∙_}
 use Rattle.station_queues.specs.Decided.{taking}
+use Rattle.station_queues.proofs.Lent.{unrefused-lent}
 use Rattle.choice.proofs.Rules.{if-same, unless-same}
 use borrow.Author.Needs.{needs}
 use Rattle.station_queues.proofs.taking.Statement.{statement}
@@ -7,11 +9,32 @@ use Rattle.station_queues.proofs.taking.Tie as tie
 
 returns : tie.Need-returns
 unfolding taking
-returns c = rw (← c .before .before .refusal .ensures) (unless-same _ (c .before .if1 .taken) (rw (c .refuse .ensures)))
+returns c =
+    let after-queue-of : tie.After-queue-of = search depth 0 in
+    let after-refusal : tie.After-refusal = search depth 0 in
+    let then1 : tie.Then1 = search depth 0 in
+    let after-refuse : tie.After-refuse = search depth 0 in
+    rw (← after-queue-of .queue-of .ensures, ← after-refusal .refusal .ensures)
+    (unless-same _ (then1 .if1 .taken) (rw (after-refuse .refuse .ensures)))
+
+submit-requires : tie.Need-submit-requires
+submit-requires c κs =
+    let after-queue-of : tie.After-queue-of = search depth 0 in
+    let after-refusal : tie.After-refusal = search depth 0 in
+    let else1 : tie.Else1 = search depth 0 in
+    rw (after-queue-of .queue-of .ensures)
+    (unrefused-lent _ _ _ _ _ _
+    (rw (after-queue-of .queue-of .ensures) at (sym (after-refusal .refusal .ensures) ∙ else1 .if1 .left)))
 
 returns-2 : tie.Need-returns-2
 unfolding taking
-returns-2 c = rw (← c .before .before .before .before .before .before .before .before .refusal .ensures) (if-same _ (c .before .before .before .before .before .before .before .if1 .left) (c .before .before .before .before .submit .ensures))
+returns-2 c =
+    let after-queue-of : tie.After-queue-of = search depth 0 in
+    let after-refusal : tie.After-refusal = search depth 0 in
+    let else1 : tie.Else1 = search depth 0 in
+    let after-submit : tie.After-submit = search depth 0 in
+    rw (← after-queue-of .queue-of .ensures, ← after-refusal .refusal .ensures)
+    (if-same _ (else1 .if1 .left) (after-submit .submit .ensures))
 
 pub taking-spec : {M : Type 1} → statement M
 taking-spec =
@@ -19,10 +42,11 @@ taking-spec =
     (tie.spec
     (λ c κs. search needs)
     (λ c κs. search needs)
+    (λ c κs. search needs)
     (λ c. search needs)
     (λ c. search needs)
     returns
-    (λ c κs. search needs)
+    submit-requires
     (λ c. search needs)
     (λ c. search needs)
     returns-2)
