@@ -156,7 +156,7 @@ pub fn beginning(clock: BitTime, c: Core) -> Core
     let d = c.doing;
     let rested = with_doing(resting(d), c);
     let held = with_hold(accepting(clock, h), rested);
-    with_stranger(Address(127), held)
+    with_stranger(Address(state::NOBODY), held)
 }
 
 // A request of a service goes out for the first time.

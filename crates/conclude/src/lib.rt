@@ -3,6 +3,7 @@ ghost use mathlib.Core.Path.{_≡_};
 ghost use Prim.Native.Nat.{_<_, _≤_};
 ghost use mathlib.Core.List.{[]};
 ghost use lib.ListN.{length};
+ghost use Rattle.queue.specs.Queue.{AREA};
 ghost use Rattle.rows.specs.Rows.{Lent, left, confirm as Rows·confirm};
 ghost use Rattle.state.specs.World.{rows, siteOf, queueOf, withQueue};
 ghost use Rattle.state.specs.Request.{recordIn, statusOf, marksAfter};
@@ -28,7 +29,7 @@ fn close_in(
     area: &mut [u8],
 ) -> Core
     requires { ⌜ (Lawful c)
-        × ((Lent (queueOf p c) (now row) (now area)) × ((0 < queueOf p c .unconfirmed) × (length (now x) ≤ 246))) ⌝ }
+        × ((Lent (queueOf p c) (now row) (now area)) × ((0 < queueOf p c .unconfirmed) × (length (now x) ≤ AREA))) ⌝ }
     ensures { λ r. ⌜ left r (now (row .exit)) (now (area .exit))
         ≡ (let l = Rows·confirm (queueOf p c) (statusOf o) (c .doing .sendings) (now (x .entry)) (now (row .entry))
         (now (area .entry)) in left (withQueue p (l .answer) c) (l .row) (l .area)) ⌝ }
@@ -57,7 +58,7 @@ fn close(
     larea: &mut [u8],
 ) -> Core
     requires { ⌜ (Sited c (rows (now high) (now harea)) (rows (now low) (now larea)))
-        × ((0 < queueOf (c .doing .served) c .unconfirmed) × (length (now x) ≤ 246)) ⌝ }
+        × ((0 < queueOf (c .doing .served) c .unconfirmed) × (length (now x) ≤ AREA)) ⌝ }
     ensures { λ r. ⌜ Closes o (now (x .entry)) c (now (marks .entry)) (rows (now (high .entry)) (now (harea .entry)))
         (rows (now (low .entry)) (now (larea .entry))) r (now (marks .exit))
         (rows (now (high .exit)) (now (harea .exit))) (rows (now (low .exit)) (now (larea .exit))) ⌝ }
@@ -85,7 +86,7 @@ pub fn finish(
     out: &mut [u8],
 ) -> Moved
     requires { ⌜ (Sited c (rows (now high) (now harea)) (rows (now low) (now larea)))
-        × ((0 < queueOf (c .doing .served) c .unconfirmed) × ((length (now x) ≤ 246) × (255 ≤ length (now out)))) ⌝ }
+        × ((0 < queueOf (c .doing .served) c .unconfirmed) × ((length (now x) ≤ AREA) × (255 ≤ length (now out)))) ⌝ }
     ensures { λ r. ⌜ Does
         (ended o (now (x .entry)) (clock .0)
         (siteOf c (now (masters .entry)) (now (marks .entry)) (rows (now (high .entry)) (now (harea .entry)))
@@ -193,7 +194,7 @@ pub fn conclude(
     out: &mut [u8],
 ) -> Moved
     requires { ⌜ (Sited c (rows (now high) (now harea)) (rows (now low) (now larea)))
-        × ((0 < queueOf (c .doing .served) c .unconfirmed) × ((length (now x) ≤ 246) × (255 ≤ length (now out)))) ⌝ }
+        × ((0 < queueOf (c .doing .served) c .unconfirmed) × ((length (now x) ≤ AREA) × (255 ≤ length (now out)))) ⌝ }
     ensures { λ r. ⌜ Does
         (concluded (clock .0) (now (x .entry)) v
         (siteOf c (now (masters .entry)) (now (marks .entry)) (rows (now (high .entry)) (now (harea .entry)))

@@ -116,10 +116,10 @@ fn go_on(
         call,
         s,
         line,
-        &mut high[..7 * n],
-        &mut harea[..246 * n],
-        &mut low[..7 * m],
-        &mut larea[..246 * m],
+        &mut high[..request::SIZE * n],
+        &mut harea[..queue::AREA * n],
+        &mut low[..request::SIZE * m],
+        &mut larea[..queue::AREA * m],
         text,
     );
     let state = p.state;

@@ -11,7 +11,10 @@ use Rattle.queue.specs.declared.Taken.{Taken}
 use Rattle.queue.specs.declared.Collected.{Collected}
 use Rattle.queue.specs.declared.Collected.the-variants.{Refused, Handed}
 
--- "246 data octets a place"
+-- a row has "1..64 places, with 246 data octets a place"
+abbrev pub PLACES : ℕ
+PLACES = 64
+
 abbrev pub AREA : ℕ
 AREA = 246
 
@@ -23,7 +26,7 @@ place q k = pick (less (q .first + k) (q .places)) (q .first + k) (q .first + k 
 unfoldable pub unlike : ℕ → ℕ → ℕ → ℕ → Bool
 unlike places each row area =
     pick (same places 0) true
-    (pick (less 64 places) true
+    (pick (less PLACES places) true
     (pick (same row (each * places)) (pick (same area (AREA * places)) false true) true))
 
 unfoldable pub misfit : Queue → ℕ → ℕ → ℕ → Bool
@@ -32,14 +35,14 @@ misfit q each row area = unlike (q .places) each row area
 -- 29: "counts above its rows"
 unfoldable pub above : ℕ → ℕ → ℕ → Bool
 above places first used =
-    pick (less 64 places) true (pick (less first places) (pick (less places used) true false) true)
+    pick (less PLACES places) true (pick (less first places) (pick (less places used) true false) true)
 
 unfoldable pub overfull : Queue → Bool
 overfull q = above (q .places) (q .first) (q .confirmed + q .unconfirmed)
 
 -- a queue that is not overfull, in numbers
 pub record Ruled (q : Queue) : Type 0 where
-  pub few : q .places ≤ 64
+  pub few : q .places ≤ PLACES
   pub turn : q .first < q .places
   pub used : q .confirmed + q .unconfirmed ≤ q .places
 

@@ -9,6 +9,11 @@ ghost use Rattle.queue.specs.Queue.{taken, closed, confirmed, freed, col
 use frame::Address;
 use request::Record;
 
+// The most places of a row, and the data octets of each.
+pub const PLACES: usize = 64;
+
+pub const AREA: usize = 246;
+
 // A queue: the places of its row, the first place in use, and how many requests are confirmed and not.
 pub struct Queue {
     pub places: u8,
@@ -55,13 +60,13 @@ fn unlike(places: usize, each: usize, row: usize, area: usize) -> bool
     if places == 0 {
         return true;
     }
-    if 64 < places {
+    if PLACES < places {
         return true;
     }
     if row != each * places {
         return true;
     }
-    if area != 246 * places {
+    if area != AREA * places {
         return true;
     }
     false
@@ -78,7 +83,7 @@ pub fn misfit(q: Queue, each: usize, row: usize, area: usize) -> bool
 fn above(places: usize, first: usize, used: usize) -> bool
     ensures { λ r. ⌜ r ≡ Queue·above places first used ⌝ }
 {
-    if 64 < places {
+    if PLACES < places {
         return true;
     }
     if places <= first {

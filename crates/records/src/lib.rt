@@ -32,7 +32,7 @@ pub fn put(row: &mut [Record], place: usize, r: Record)
 fn refusal(q: Queue, places: usize) -> u8
     ensures { λ r. ⌜ r ≡ Records·refusal q places ⌝ }
 {
-    if queue::misfit(q, 1, places, 246 * frame::wide(q.places)) {
+    if queue::misfit(q, 1, places, queue::AREA * frame::wide(q.places)) {
         return 21;
     }
     if queue::overfull(q) {

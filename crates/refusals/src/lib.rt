@@ -5,6 +5,7 @@ ghost use Prim.Native.Nat.{_*_, _<_};
 ghost use lib.ListN.{length};
 ghost use Rattle.choice.specs.Choice.{same};
 ghost use Rattle.ring.specs.Ring.{nextOf};
+ghost use Rattle.request.specs.Record.{SIZE};
 ghost use Rattle.state.specs.World.{Rows, queueOf};
 ghost use Rattle.state.specs.Refusals.{Lawful, oddIn, unlikeIn, inFlight, refusalIn};
 ghost use Rattle.state.specs.Refusals.{unstartable as Refusals·unstartable, unlent as Refusals·unlent};
@@ -57,10 +58,10 @@ fn misaddressed(ps: u8, stranger: u8, source: u8) -> bool
     if 126 < ps {
         return true;
     }
-    if 127 < stranger {
+    if state::NOBODY < stranger {
         return true;
     }
-    if 127 < source {
+    if state::NOBODY < source {
         return true;
     }
     false
@@ -139,7 +140,7 @@ pub fn lawless(c: Core, masters: &[u8; 127], started: &[u8; 127], k: Kept) -> bo
 pub fn unlent(q: Queue, row: &[u8], area: &[u8]) -> bool
     ensures { λ r. ⌜ r ≡ Refusals·unlent q (record { row = now (row .entry); area = now (area .entry) }) ⌝ }
 {
-    queue::misfit(q, 7, row.len(), area.len())
+    queue::misfit(q, request::SIZE, row.len(), area.len())
 }
 
 // Whether the output is too short or an update too long: refusal 22.
@@ -178,7 +179,7 @@ fn sdn(service: u8) -> bool
 
 // The record being sent, or the one that would be.
 pub fn in_flight(c: Core, high: &[u8], low: &[u8]) -> Record
-    requires { ⌜ (Lawful c) × ((length (now high) ≡ 7 * c .high .places) × (length (now low) ≡ 7 * c .low .places)) ⌝ }
+    requires { ⌜ (Lawful c) × ((length (now high) ≡ SIZE * c .high .places) × (length (now low) ≡ SIZE * c .low .places)) ⌝ }
     ensures { λ r. ⌜ r ≡ inFlight c (now (high .entry)) (now (low .entry)) ⌝ }
 {
     let doing = c.doing;
@@ -194,7 +195,7 @@ pub fn in_flight(c: Core, high: &[u8], low: &[u8]) -> Record
 // Whether an unconfirmed record is one that submit would refuse, or the record being sent is not the phase's: refusal 29,
 // by the records.
 fn unsound(c: Core, high: &[u8], low: &[u8]) -> bool
-    requires { ⌜ (Lawful c) × ((length (now high) ≡ 7 * c .high .places) × (length (now low) ≡ 7 * c .low .places)) ⌝ }
+    requires { ⌜ (Lawful c) × ((length (now high) ≡ SIZE * c .high .places) × (length (now low) ≡ SIZE * c .low .places)) ⌝ }
     ensures { λ r. ⌜ r ≡ Refusals·unsound c (now (high .entry)) (now (low .entry)) ⌝ }
 {
     let ts = c.ts;

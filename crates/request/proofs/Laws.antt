@@ -5,15 +5,14 @@ use mathlib.Core.Bool.{false}
 use mathlib.Core.Path.{_≡_, sym, _∙_}
 use mathlib.Core.List.{List}
 use native.Mathlib.Omega.{arith}
-use native.Mathlib.Nat.{add-zero}
 use lib.ListN.{length}
 use Rattle.choice.proofs.Rules.{passed, is-said, false-less, pick-itself}
 use Rattle.frame.specs.Reading.{octet}
 use Rattle.laid.specs.Laid.{laid}
 use Rattle.laid.proofs.Octets.{laid-octet, before-octet, behind-octet}
 use Rattle.request.specs.declared.Record.{Record}
-use Rattle.request.specs.Record.{SIZE, octets, recordAt, extensions, misaddressed, mispointed, unserved}
-use Rattle.request.specs.Record.{overlong, unfit}
+use Rattle.request.specs.Record.{UNIT, SIZE, octets, recordAt, extensions, misaddressed, mispointed}
+use Rattle.request.specs.Record.{unserved, overlong, unfit}
 
 -- a fit request, test by test
 pub record Fit (ts : ℕ) (r : Record) (n : ℕ) : Type 0 where
@@ -32,7 +31,7 @@ fit ts r n e =
     record { addressed = is-said (a .0); pointed = is-said (b .0); served = is-said (c .0); short = is-said (d .0) }
 
 -- its data and access points are at most 246 octets
-pub fit-short : (ts : ℕ) (r : Record) (n : ℕ) → unfit ts r n ≡ 0 → extensions (r .to .0) + (extensions (r .from .0) + n) ≤ 246
+pub fit-short : (ts : ℕ) (r : Record) (n : ℕ) → unfit ts r n ≡ 0 → extensions (r .to .0) + (extensions (r .from .0) + n) ≤ UNIT
 unfolding overlong
 fit-short ts r n e = false-less _ _ (sym (pick-itself _) ∙ fit ts r n e .short)
 
@@ -41,13 +40,13 @@ pub read-back : (l : List ℕ) (i : ℕ) (r : Record) → i + SIZE ≤ length l 
 unfolding recordAt octets
 read-back l i r h =
     let o : (k : ℕ) → k < SIZE → octet (laid l i (octets r)) (i + k) ≡ octet (octets r) k = λ k n. laid-octet l i (octets r) k (omega arith) n in
-    rw (rw (add-zero i) at (o 0 (omega arith)), o 1 (omega arith), o 2 (omega arith), o 3 (omega arith), o 4 (omega arith), o 5 (omega arith), o 6 (omega arith))
+    rw (o 0 (omega arith), o 1 (omega arith), o 2 (omega arith), o 3 (omega arith), o 4 (omega arith), o 5 (omega arith), o 6 (omega arith))
 
 -- records whose octets are the same
 same-octets : (l m : List ℕ) (j : ℕ) → ((k : ℕ) → k < SIZE → octet l (j + k) ≡ octet m (j + k)) → recordAt l j ≡ recordAt m j
 unfolding recordAt
 same-octets l m j h =
-    cc (rw (add-zero j) at (h 0 (omega arith)), h 1 (omega arith), h 2 (omega arith), h 3 (omega arith), h 4 (omega arith), h 5 (omega arith), h 6 (omega arith))
+    cc (h 0 (omega arith), h 1 (omega arith), h 2 (omega arith), h 3 (omega arith), h 4 (omega arith), h 5 (omega arith), h 6 (omega arith))
 
 pub read-before : (l : List ℕ) (i j : ℕ) (r : Record) → i + SIZE ≤ length l → j + SIZE ≤ i → recordAt (laid l i (octets r)) j ≡ recordAt l j
 read-before l i j r h n = same-octets _ l j (λ k m. before-octet l i (octets r) (j + k) (omega arith) (omega arith))

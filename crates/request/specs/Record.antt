@@ -31,6 +31,13 @@ DS = 17
 abbrev pub WAITING : ℕ
 WAITING = 255
 
+-- the address "127 for all", and the most octets of a data unit
+abbrev pub ALL : ℕ
+ALL = 127
+
+abbrev pub UNIT : ℕ
+UNIT = 246
+
 -- "a status not named here" is not one of these: OK, UE, RR, RS, DL, NR, DH, RDL, RDH, NA, DS
 unfoldable pub named : ℕ → Bool
 named n =
@@ -42,10 +49,32 @@ named n =
     (pick (same n NA) true
     (pick (same n DS) true false))))))
 
--- the octets of a record, and the record of the octets from a place on
+-- ---- the listing: each field's place among a record's octets, in the order of the fields, and how many octets these are
+abbrev pub SERVICE : ℕ
+SERVICE = 0
+
+abbrev pub DESTINATION : ℕ
+DESTINATION = 1
+
+abbrev pub TO : ℕ
+TO = 2
+
+abbrev pub FROM : ℕ
+FROM = 3
+
+abbrev pub LENGTH : ℕ
+LENGTH = 4
+
+abbrev pub STATUS : ℕ
+STATUS = 5
+
+abbrev pub COUNT : ℕ
+COUNT = 6
+
 abbrev pub SIZE : ℕ
 SIZE = 7
 
+-- the octets of a record, and the record of the octets from a place on
 unfoldable pub octets : Record → List ℕ
 octets r =
     r .service ∷ (r .destination .0 ∷ (r .to .0 ∷ (r .from .0 ∷ (r .length ∷ (r .status ∷ (r .count ∷ []))))))
@@ -53,21 +82,21 @@ octets r =
 unfoldable pub recordAt : List ℕ → ℕ → Record
 recordAt l i =
     record {
-      service = octet l i;
-      destination = record { 0 = octet l (i + 1) };
-      to = record { 0 = octet l (i + 2) };
-      from = record { 0 = octet l (i + 3) };
-      length = octet l (i + 4);
-      status = octet l (i + 5);
-      count = octet l (i + 6);
+      service = octet l (i + SERVICE);
+      destination = record { 0 = octet l (i + DESTINATION) };
+      to = record { 0 = octet l (i + TO) };
+      from = record { 0 = octet l (i + FROM) };
+      length = octet l (i + LENGTH);
+      status = octet l (i + STATUS);
+      count = octet l (i + COUNT);
     }
 
 -- 23: "DA over 127, own, or 127 not for SDN"
 unfoldable pub misaddressed : ℕ → ℕ → ℕ → Bool
 misaddressed ts destination service =
-    pick (less 127 destination) true
+    pick (less ALL destination) true
     (pick (same destination ts) true
-    (pick (same destination 127) (pick (same service SDN) false true) false))
+    (pick (same destination ALL) (pick (same service SDN) false true) false))
 
 -- 24: "access point out of range, or destination 63 but for SDN"
 unfoldable pub beyond : ℕ → ℕ → Bool
@@ -89,7 +118,7 @@ extensions point = pick (same point NONE) 0 1
 
 -- 26: "data plus access points over 246", of n octets of data
 unfoldable pub overlong : ℕ → ℕ → ℕ → Bool
-overlong to from n = pick (less 246 (extensions to + (extensions from + n))) true false
+overlong to from n = pick (less UNIT (extensions to + (extensions from + n))) true false
 
 -- 23 to 26, first match, of a request of station TS with n octets of data; 0 is none of these
 unfoldable pub unfit : ℕ → Record → ℕ → ℕ

@@ -5,7 +5,7 @@ ghost use Prim.Native.Nat.{_+_, _≤_};
 ghost use lib.ListN.{length};
 ghost use Rattle.choice.specs.Choice.{less, same, either};
 ghost use Rattle.laid.specs.Laid.{laid};
-ghost use Rattle.request.specs.Record.{recordAt, octets};
+ghost use Rattle.request.specs.Record.{SIZE, recordAt, octets};
 ghost use Rattle.request.specs.Record.{named as Record·named, misaddressed as Record·misaddressed};
 ghost use Rattle.request.specs.Record.{beyond as Record·beyond, mispointed as Record·mispointed};
 ghost use Rattle.request.specs.Record.{unserved as Record·unserved, extensions as Record·extensions};
@@ -39,6 +39,28 @@ pub const DS: u8 = 17;
 
 pub const WAITING: u8 = 255;
 
+// The address of all stations, and the most octets of a data unit.
+const ALL: u8 = 127;
+
+const UNIT: usize = 246;
+
+// The octets of a record, and each field's place among them.
+pub const SIZE: usize = 7;
+
+const SERVICE: usize = 0;
+
+const DESTINATION: usize = 1;
+
+const TO: usize = 2;
+
+const FROM: usize = 3;
+
+const LENGTH: usize = 4;
+
+const STATUS: usize = 5;
+
+const COUNT: usize = 6;
+
 // Whether a status is that of a confirmation.
 pub fn named(status: u8) -> bool
     ensures { λ r. ⌜ r ≡ Record·named status ⌝ }
@@ -69,44 +91,44 @@ pub fn named(status: u8) -> bool
 
 // The record of the octets from a place on.
 pub fn read(row: &[u8], at: usize) -> Record
-    requires { ⌜ at + 7 ≤ length (now row) ⌝ }
+    requires { ⌜ at + SIZE ≤ length (now row) ⌝ }
     ensures { λ r. ⌜ r ≡ recordAt (now (row .entry)) at ⌝ }
 {
     Record {
-        service: row[at],
-        destination: Address(row[at + 1]),
-        to: Point(row[at + 2]),
-        from: Point(row[at + 3]),
-        length: row[at + 4],
-        status: row[at + 5],
-        count: row[at + 6],
+        service: row[at + SERVICE],
+        destination: Address(row[at + DESTINATION]),
+        to: Point(row[at + TO]),
+        from: Point(row[at + FROM]),
+        length: row[at + LENGTH],
+        status: row[at + STATUS],
+        count: row[at + COUNT],
     }
 }
 
 // Lays a record's octets from a place on.
 pub fn write(row: &mut [u8], at: usize, r: Record)
-    requires { ⌜ at + 7 ≤ length (now row) ⌝ }
+    requires { ⌜ at + SIZE ≤ length (now row) ⌝ }
     ensures { λ _. ⌜ now (row .exit) ≡ laid (now (row .entry)) at (octets r) ⌝ }
 {
-    row[at] = r.service;
-    row[at + 1] = r.destination.0;
-    row[at + 2] = r.to.0;
-    row[at + 3] = r.from.0;
-    row[at + 4] = r.length;
-    row[at + 5] = r.status;
-    row[at + 6] = r.count;
+    row[at + SERVICE] = r.service;
+    row[at + DESTINATION] = r.destination.0;
+    row[at + TO] = r.to.0;
+    row[at + FROM] = r.from.0;
+    row[at + LENGTH] = r.length;
+    row[at + STATUS] = r.status;
+    row[at + COUNT] = r.count;
 }
 
 fn misaddressed(ts: u8, destination: u8, service: u8) -> bool
     ensures { λ r. ⌜ r ≡ Record·misaddressed ts destination service ⌝ }
 {
-    if 127 < destination {
+    if ALL < destination {
         return true;
     }
     if destination == ts {
         return true;
     }
-    if destination == 127 {
+    if destination == ALL {
         if service == SDN {
             return false;
         }
@@ -172,7 +194,7 @@ fn extensions(point: u8) -> usize
 fn overlong(to: u8, from: u8, n: usize) -> bool
     ensures { λ r. ⌜ r ≡ Record·overlong to from n ⌝ }
 {
-    if 246 - (extensions(to) + extensions(from)) < n {
+    if UNIT - (extensions(to) + extensions(from)) < n {
         return true;
     }
     false
@@ -199,7 +221,7 @@ pub fn unfit(ts: Address, r: Record, n: usize) -> u8
     let to = r.to.0;
     let from = r.from.0;
     let destination = r.destination.0;
-    if destination < 127 {
+    if destination < ALL {
         if destination != ts.0 {
             if usual(to) {
                 if usual(from) {

@@ -3,7 +3,8 @@
 ghost use mathlib.Core.Path.{_≡_};
 ghost use Prim.Native.Nat.{_+_, _*_, _<_, _≤_};
 ghost use lib.ListN.{length};
-ghost use Rattle.queue.specs.Queue.{Ruled};
+ghost use Rattle.request.specs.Record.{SIZE};
+ghost use Rattle.queue.specs.Queue.{AREA, Ruled};
 ghost use Rattle.rows.specs.Rows.{Lent, left, submitted, handed, at as Rows·at, put as Rows·put};
 ghost use Rattle.rows.specs.Rows.{fill as Rows·fill, confirm as Rows·confirm, drain as Rows·drain};
 ghost use Rattle.rows.specs.Rows.{sound as Rows·sound};
@@ -13,31 +14,28 @@ use queue::Queue;
 use queue::Taken;
 use request::Record;
 
-// The octets of a record.
-const SIZE: usize = 7;
-
 // The record at a place.
 pub fn at(row: &[u8], place: u8) -> Record
-    requires { ⌜ 7 * place + 7 ≤ length (now row) ⌝ }
+    requires { ⌜ SIZE * place + SIZE ≤ length (now row) ⌝ }
     ensures { λ r. ⌜ r ≡ Rows·at (now (row .entry)) place ⌝ }
 {
-    request::read(row, SIZE * frame::wide(place))
+    request::read(row, request::SIZE * frame::wide(place))
 }
 
 // Puts a record at a place.
 pub fn put(row: &mut [u8], place: u8, r: Record)
-    requires { ⌜ 7 * place + 7 ≤ length (now row) ⌝ }
+    requires { ⌜ SIZE * place + SIZE ≤ length (now row) ⌝ }
     ensures { λ _. ⌜ now (row .exit) ≡ Rows·put (now (row .entry)) place r ⌝ }
 {
-    request::write(row, SIZE * frame::wide(place), r);
+    request::write(row, request::SIZE * frame::wide(place), r);
 }
 
 // Puts octets at a place of the data area.
 fn fill(area: &mut [u8], place: u8, x: &[u8])
-    requires { ⌜ (246 * place + 246 ≤ length (now area)) × (length (now x) ≤ 246) ⌝ }
+    requires { ⌜ (AREA * place + AREA ≤ length (now area)) × (length (now x) ≤ AREA) ⌝ }
     ensures { λ _. ⌜ now (area .exit) ≡ Rows·fill (now (area .entry)) place (now (x .entry)) ⌝ }
 {
-    laid::lay(x, area, 246 * frame::wide(place));
+    laid::lay(x, area, queue::AREA * frame::wide(place));
 }
 
 // Submits a request with its data.
@@ -58,7 +56,7 @@ pub fn submit(ts: Address, q: Queue, r: Record, x: &[u8], row: &mut [u8], area: 
 
 // Confirms the first unconfirmed request, with the reply's data.
 pub fn confirm(q: Queue, status: u8, count: u8, x: &[u8], row: &mut [u8], area: &mut [u8]) -> Queue
-    requires { ⌜ (Ruled q) × ((0 < q .unconfirmed) × (Lent q (now row) (now area) × (length (now x) ≤ 246))) ⌝ }
+    requires { ⌜ (Ruled q) × ((0 < q .unconfirmed) × (Lent q (now row) (now area) × (length (now x) ≤ AREA))) ⌝ }
     ensures { λ r. ⌜ left r (now (row .exit)) (now (area .exit))
         ≡ Rows·confirm q status count (now (x .entry)) (now (row .entry)) (now (area .entry)) ⌝ }
 {
@@ -86,7 +84,7 @@ pub fn drain(q: Queue, count: u8, row: &mut [u8], area: &mut [u8]) -> Queue
 
 // Hands back the oldest confirmed record and its place's number.
 pub fn collect(q: Queue, row: &[u8]) -> Collected
-    requires { ⌜ (Ruled q) × (length (now row) ≡ 7 * q .places) ⌝ }
+    requires { ⌜ (Ruled q) × (length (now row) ≡ SIZE * q .places) ⌝ }
     ensures { λ r. ⌜ r ≡ handed q (now (row .entry)) ⌝ }
 {
     queue::collect(q, at(row, q.first))
@@ -94,7 +92,7 @@ pub fn collect(q: Queue, row: &[u8]) -> Collected
 
 // Whether every unconfirmed record is one that submit would take.
 pub fn sound(ts: Address, q: Queue, row: &[u8]) -> bool
-    requires { ⌜ (Ruled q) × (length (now row) ≡ 7 * q .places) ⌝ }
+    requires { ⌜ (Ruled q) × (length (now row) ≡ SIZE * q .places) ⌝ }
     ensures { λ r. ⌜ r ≡ Rows·sound (ts .0) q (now (row .entry)) (q .unconfirmed) ⌝ }
 {
     let ahead = q.confirmed;

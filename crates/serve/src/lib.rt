@@ -36,7 +36,11 @@ fn lay(p: Priority, c: Core, marks: &[u8; 127], row: &[u8], area: &[u8], out: &m
     let r = rows::at(row, place);
     let destination = r.destination;
     let m = exchange::mark_of(marks, destination);
-    let data = read::part(area, 246 * frame::wide(place), frame::wide(r.length));
+    let data = read::part(
+        area,
+        queue::AREA * frame::wide(place),
+        frame::wide(r.length),
+    );
     exchange::lay_request(ts, p, r, m, data, out)
 }
 

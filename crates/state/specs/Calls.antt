@@ -21,7 +21,7 @@ use Rattle.queue.specs.declared.Queue.{Queue}
 use Rattle.queue.specs.declared.Taken.{Taken}
 use Rattle.queue.specs.declared.Collected.{Collected}
 use Rattle.queue.specs.declared.Collected.the-variants.{Refused as Uncollected, Handed}
-use Rattle.queue.specs.Queue.{current}
+use Rattle.queue.specs.Queue.{PLACES, current}
 use Rattle.rows.specs.Rows.{Left, left, submitted, handed, drain}
 use Rattle.state.specs.declared.Phase.{Phase}
 use Rattle.state.specs.declared.Phase.the-variants.{Idle, Awaited, Sdn, Check, ToSelf}
@@ -102,9 +102,9 @@ unfoldable pub start : Settings → ℕ → List ℕ → List ℕ → ℕ → �
 start s ts masters points high low =
     pick (said (unstartable s ts masters)) (Unstarted 20)
     (pick (same high 0) (Unstarted 21)
-    (pick (less 64 high) (Unstarted 21)
+    (pick (less PLACES high) (Unstarted 21)
     (pick (same low 0) (Unstarted 21)
-    (pick (less 64 low) (Unstarted 21)
+    (pick (less PLACES low) (Unstarted 21)
     (Station
     (stateOf
     (freshWorld (freshCore s ts masters (emptyQueue high) (emptyQueue low)) masters points (replicate 255 0) noRows noRows)))))))

@@ -19,6 +19,7 @@ use Rattle.state.specs.declared.Priority.{Priority}
 use Rattle.state.specs.declared.Priority.the-variants.{High, Low}
 use Rattle.state.specs.declared.Core.{Core}
 use Rattle.state.specs.declared.Kept.{Kept}
+use Rattle.state.specs.Hold.{NOBODY}
 use Rattle.state.specs.World.{World, Rows, queueOf}
 use Rattle.state.specs.Request.{recordIn}
 use Rattle.state.specs.Answering.{UPDATE}
@@ -44,7 +45,7 @@ unstarted c masters started =
 -- "an address over 126", where 127 is nobody: PS, the stranger, whose request was answered
 unfoldable pub misaddressed : ℕ → ℕ → ℕ → Bool
 misaddressed ps stranger source =
-    pick (less 126 ps) true (pick (less 127 stranger) true (pick (less 127 source) true false))
+    pick (less 126 ps) true (pick (less NOBODY stranger) true (pick (less NOBODY source) true false))
 
 -- "counts above its rows", "a remembered reply over 255 octets"
 unfoldable pub overcounted : Queue → Queue → ℕ → Bool

@@ -14,6 +14,9 @@ use times::Settings;
 // The most octets of an update.
 pub const UPDATE: usize = 244;
 
+// The address that stands for no station: no first token is remembered, or no request.
+pub const NOBODY: u8 = 127;
+
 // The phases: Idle, Reply awaited, SDN going out, Pass checked, Pass to self.
 pub enum Phase {
     Idle,

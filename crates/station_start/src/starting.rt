@@ -1,6 +1,7 @@
 // The station's call start, and the state that start and reset give. Assumes nothing.
 ghost use mathlib.Core.Path.{_≡_};
 ghost use Prim.Native.Nat.{_<_, _≤_};
+ghost use Rattle.queue.specs.Queue.{PLACES};
 ghost use Rattle.state.specs.World.{stateOf};
 ghost use Rattle.state.specs.Calls.{Unstarted, noRows, emptyQueue, freshCore, freshWorld, start as Calls·start};
 ghost use Rattle.state.specs.Told.{startedOf, blank, blankSettings};
@@ -32,7 +33,7 @@ fn fresh_core(settings: Settings, ts: Address, masters: Masters, high: Queue, lo
         settings,
         ts,
         ps: ring::previous(&set, ts),
-        stranger: Address(127),
+        stranger: Address(state::NOBODY),
         doing: Doing {
             phase: Phase::Idle,
             served: Priority::High,
@@ -73,7 +74,7 @@ pub fn fresh(
         points,
         memory: Memory {
             kept: Kept {
-                source: Address(127),
+                source: Address(state::NOBODY),
                 bit: false,
                 length: 0,
             },
@@ -84,7 +85,7 @@ pub fn fresh(
 
 // An empty queue of so many places.
 fn empty(places: usize) -> Queue
-    requires { ⌜ places ≤ 64 ⌝ }
+    requires { ⌜ places ≤ PLACES ⌝ }
     ensures { λ r. ⌜ r ≡ emptyQueue places ⌝ }
 {
     Queue {
@@ -153,13 +154,13 @@ pub fn start(
     if high == 0 {
         return unstarted(21);
     }
-    if 64 < high {
+    if queue::PLACES < high {
         return unstarted(21);
     }
     if low == 0 {
         return unstarted(21);
     }
-    if 64 < low {
+    if queue::PLACES < low {
         return unstarted(21);
     }
     Renewed {

@@ -69,7 +69,7 @@ fn flat_taken(t: Taken) -> FlatQueue
 fn unlent(q: Queue, row: usize, area: usize) -> u8
     ensures { λ r. ⌜ r ≡ Calls·unlent q row area ⌝ }
 {
-    if queue::misfit(q, 7, row, area) {
+    if queue::misfit(q, request::SIZE, row, area) {
         return 21;
     }
     if queue::overfull(q) {
@@ -150,7 +150,7 @@ pub extern "C" fn parts_confirm(
     if unconfirmed == 0 {
         return flat_queue(28, q);
     }
-    if 246 < x.len() {
+    if queue::AREA < x.len() {
         return flat_queue(26, q);
     }
     flat_queue(0, rows::confirm(q, status, count, x, row, area))
