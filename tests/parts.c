@@ -24,6 +24,13 @@ static uint32_t wide(const char *word)
     return (uint32_t)number(word, UINT32_MAX);
 }
 
+static void ask_standard(char **word)
+{
+    (void)word;
+    struct parts_settings s = parts_standard();
+    printf("%u %u %u %u %u %u %u\n", s.tset, s.tqui, s.min_tsdr, s.max_tsdr, s.ttd, s.ttr, s.retries);
+}
+
 static void ask_settings(char **word)
 {
     struct parts_times t = parts_reckon(wide(word[1]), wide(word[2]), wide(word[3]), wide(word[4]), wide(word[5]),
@@ -169,10 +176,10 @@ static void ask_look(char **word)
 int main(void)
 {
     static const struct call calls[] = {
-        {"settings", 9, ask_settings}, {"left", 4, ask_left},       {"ring", 3, ask_ring},
-        {"row", 8, ask_row},           {"submit", 6, ask_submit},   {"confirm", 4, ask_confirm},
-        {"drain", 2, ask_drain},       {"collect", 1, ask_collect}, {"sound", 1, ask_sound},
-        {"look", 1, ask_look},
+        {"standard", 1, ask_standard}, {"settings", 9, ask_settings}, {"left", 4, ask_left},
+        {"ring", 3, ask_ring},         {"row", 8, ask_row},           {"submit", 6, ask_submit},
+        {"confirm", 4, ask_confirm},   {"drain", 2, ask_drain},       {"collect", 1, ask_collect},
+        {"sound", 1, ask_sound},       {"look", 1, ask_look},
     };
     input_end = fenced();
     row_end = fenced();

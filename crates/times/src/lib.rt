@@ -41,7 +41,7 @@ pub const STANDARD: Settings = Settings {
     retries: Count(1),
 };
 
-// The standard settings, for a caller's proof.
+// The standard settings, by their definition.
 pub fn standard() -> Settings
     ensures { λ r. ⌜ r ≡ Times·standard ⌝ }
 {

@@ -6,6 +6,7 @@
 //!
 //! | Call | Answers |
 //! |---|---|
+//! | `standard` | the standard settings: TSET TQUI MINTSDR MAXTSDR TTD TTR RETRIES |
 //! | `settings TSET TQUI MINTSDR MAXTSDR TTD TTR RETRIES TS` | the refusal or 0, and TIMES |
 //! | `left CLOCK ACCEPTANCE TTR` | 1 if time is left, else 0 |
 //! | `ring TS MASTERS` | NS and PS, or 255 for each |
@@ -22,7 +23,7 @@ use crate::queue::Refusal;
 use crate::ring::{Ring, ADDRESSES};
 use crate::rows::{Layout, Record, Row};
 use crate::text::{hex, optional, unhex};
-use crate::times::{elapsed, Settings};
+use crate::times::{elapsed, Settings, STANDARD};
 
 /// Answers call after call.
 pub struct Parts {
@@ -51,6 +52,7 @@ impl Parts {
     pub fn answer(&mut self, call: &str) -> Result<String, String> {
         let words: Vec<&str> = call.split(' ').collect();
         match words[..] {
+            ["standard"] => Ok(say_settings(&STANDARD)),
             ["settings", tset, tqui, min_tsdr, max_tsdr, ttd, ttr, retry_limit, address] => {
                 let settings = Settings {
                     tset: number(tset)?,
@@ -136,6 +138,11 @@ fn layout_of(words: &[&str]) -> Result<Layout, String> {
     })
 }
 
+fn say_settings(settings: &Settings) -> String {
+    let Settings { tset, tqui, min_tsdr, max_tsdr, ttd, ttr, retry_limit } = settings;
+    format!("{tset} {tqui} {min_tsdr} {max_tsdr} {ttd} {ttr} {retry_limit}")
+}
+
 fn say_times(settings: &Settings, address: u8) -> String {
     if !settings.in_rule() || address >= ADDRESSES {
         return "20 0 0 0 0 0 0 0 0".to_string();
@@ -172,12 +179,18 @@ mod tests {
         calls.iter().map(|call| parts.answer(call).unwrap()).collect()
     }
 
-    /// Cases 9 and 10 of document 01, and its own example of a ring.
+    /// The standard settings and cases 9 and 10 of document 01, and its own example of a ring.
     #[test]
     fn document() {
-        let calls =
-            ["settings 20 0 20 400 1 10000 1 2", "left 1099 100 1000", "left 1100 100 1000", "ring 2 2,5"];
-        assert_eq!(answers(&calls), ["0 42 75 400 455 4550 20 400 75", "1", "0", "5 5"]);
+        let calls = [
+            "standard",
+            "settings 20 0 20 400 1 10000 1 2",
+            "left 1099 100 1000",
+            "left 1100 100 1000",
+            "ring 2 2,5",
+        ];
+        let expected = ["20 0 20 400 1 10000 1", "0 42 75 400 455 4550 20 400 75", "1", "0", "5 5"];
+        assert_eq!(answers(&calls), expected);
     }
 
     #[test]

@@ -1,4 +1,4 @@
-//! The script of times: settings at and around each bound, seeded ones, and the time that is left.
+//! The script of times: the standard settings, settings at and around each bound, seeded ones, and the time that is left.
 
 use crate::random::Random;
 use crate::times::{Settings, STANDARD};
@@ -22,10 +22,10 @@ const OVER: [u32; 4] = [1 << 16, 1 << 24, 1 << 31, u32::MAX];
 
 const ADDRESSES: [u8; 7] = [0, 1, 2, 126, 127, 128, 255];
 
-/// The calls of times, with `count` seeded settings and a tenth as many seeded clocks.
+/// The calls of times: the standard settings, each bound, and `count` seeded settings and a tenth as many seeded clocks.
 pub fn times(seed: u64, count: usize) -> Vec<String> {
     let mut random = Random::new(seed);
-    let mut calls = Vec::new();
+    let mut calls = vec!["standard".to_string()];
     each_bound(&mut calls);
     related_bounds(&mut calls);
     for _ in 0..count {
