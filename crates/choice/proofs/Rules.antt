@@ -6,7 +6,7 @@ use mathlib.Core.Path.{_≡_, refl, sym, _∙_}
 use native.Mathlib.Omega.{arith}
 use borrow.Author.Tests.{lt-ltb, le-ltb, le-leb, lt-leb, eq-eqb, ne-eqb, ltb-true, ltb-false, leb-true, leb-false}
 use borrow.Author.Tests.{eqb-true, eqb-false, not-true, not-false}
-use Rattle.choice.specs.Choice.{pick, less, most, same, said}
+use Rattle.choice.specs.Choice.{both, pick, less, most, same, said}
 
 -- ---- what a test says of its numbers, both ways
 pub less-true : {a b : ℕ} → a < b → less a b ≡ true
@@ -157,6 +157,18 @@ pub granted : (b y : Bool) → pick b y true ≡ false → (b ≡ true) × (y �
 unfolding pick
 granted true y e = (refl, e)
 granted false y e = absurd (true≢false e)
+
+-- ---- and for one that came to true
+pub both-true : (b y : Bool) → both b y ≡ true → (b ≡ true) × (y ≡ true)
+unfolding pick
+both-true true y e = (refl, e)
+both-true false y e = absurd (true≢false (sym e))
+
+-- ---- a fact of either side is a fact of the choice
+pub by-pick : {A : Type 0} (P : A → Type 0) (b : Bool) {x y : A} → P x → P y → P (pick b x y)
+unfolding pick
+by-pick P true x y = x
+by-pick P false x y = y
 
 pub is-said : {b r : Bool} → said b ≡ r → b ≡ r
 unfolding said

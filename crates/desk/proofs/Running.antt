@@ -5,7 +5,7 @@ use mathlib.Core.List.{List, [], _∷_, _++_, append-nil}
 use mathlib.Core.Path.{_≡_, refl, sym, ap, _∙_}
 use lib.ListN.{length-replicate}
 use Rattle.choice.specs.Choice.{pick, same}
-use Rattle.choice.proofs.Rules.{pick-false, unrefused}
+use Rattle.choice.proofs.Rules.{pick-false, unrefused, by-pick}
 use Rattle.request.specs.Record.{SIZE}
 use Rattle.queue.specs.Queue.{AREA}
 use Rattle.typed.specs.Places.{LONG, SHORT}
@@ -39,11 +39,6 @@ run-last (x ∷ l) c w = run-last l c (call x w .world)
 back : (w : World) → worldOf (stateOf w) (w .site .high) (w .site .low) ≡ w
 unfolding worldOf stateOf
 back w = refl
-
-by-pick : {A : Type 0} (P : A → Type 0) (b : Bool) {x y : A} → P x → P y → P (pick b x y)
-unfolding pick
-by-pick P true x y = x
-by-pick P false x y = y
 
 -- ---- a line on a station that a run left
 module _ (w : World) (b : Begun w) (r : List Call) (s : State) (high low : Rows) (e : worldOf s high low ≡ run r w .world) where

@@ -7,7 +7,7 @@ use mathlib.Core.Path.{_≡_, refl, sym, _∙_, ap}
 use native.Mathlib.Nat.{add-zero}
 use native.Mathlib.Numerals.{add-one}
 use native.Mathlib.Omega.{arith}
-use lib.ListN.{length, drop, length-append, length-drop}
+use lib.ListN.{length, drop, length-drop}
 use lib.Seq.{getD-drop, drop-drop, drop-append-seam, drop-cons}
 use Rattle.choice.specs.Choice.{pick, less}
 use Rattle.choice.proofs.Rules.{less-true, less-false, true-less, false-less, true-same, false-same, pick-true}
@@ -18,6 +18,7 @@ use Rattle.frame.specs.declared.Head.{Head}
 use Rattle.control.specs.Control.{fc, listed}
 use Rattle.frame.specs.Format.{announce, extension, unit, addressed, body, outside, misdirected, unwritableFrame}
 use Rattle.frame.specs.Reading.{octet, extensions, accessOf, dataAt, headOf, extended, misnamed, bodyRefusal}
+use Rattle.frame.proofs.Lengths.{length-unit, length-body}
 use Rattle.frame_laws.proofs.Cases.{taken, both-ways, true-is-false}
 use Rattle.control.proofs.Octet.{control-again, listed-again}
 
@@ -93,15 +94,6 @@ writable h units e =
       directed = is-said (e6 .0);
       most = omega (arith, false-less _ _ (e7 .0));
     }
-
-length-unit : (h : Head) (x : List ℕ)
-    → length (unit h x) ≡ length (extension (h .to)) + (length (extension (h .from)) + length x)
-unfolding unit
-length-unit h x = simp length-append
-
-length-body : (h : Head) (x : List ℕ) → length (body h x) ≡ 3 + length (unit h x)
-unfolding body
-length-body h x = omega arith
 
 module _ (h : Head) (x : List ℕ) (w : Writable h (length (unit h x))) where
   source-below : h .source .0 < 128

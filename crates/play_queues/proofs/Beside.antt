@@ -5,6 +5,7 @@ use mathlib.Core.Bool.{Bool, true, false}
 use mathlib.Core.List.{List, [], _∷_}
 use mathlib.Core.Path.{_≡_, refl, ap}
 use Rattle.choice.specs.Choice.{pick, same}
+use Rattle.choice.proofs.Rules.{by-pick}
 use Rattle.request.specs.declared.Record.{Record}
 use Rattle.queue.specs.declared.Taken.{Taken}
 use Rattle.queue.specs.declared.Collected.{Collected}
@@ -41,11 +42,6 @@ on-pick : {A : Type 0} (P : A → A → Type 0) (b : Bool) {x x′ y y′ : A} �
 unfolding pick
 on-pick P true x y = x
 on-pick P false x y = y
-
-by-pick : {A : Type 0} (P : A → Type 0) (b : Bool) {x y : A} → P x → P y → P (pick b x y)
-unfolding pick
-by-pick P true x y = x
-by-pick P false x y = y
 
 module _ (s : State) (r o : Rows) where
   refused-beside : (p : Priority) (n : ℕ) → Beside p o (refuse n (lent p s r)) (refuse n (beside p s r o))

@@ -11,7 +11,8 @@ use Rattle.request.specs.declared.Record.{Record}
 use Rattle.request.specs.Record.{unfit}
 use Rattle.queue.specs.declared.Queue.{Queue}
 use Rattle.queue.specs.declared.Taken.{Taken}
-use Rattle.queue.specs.Queue.{Ruled, place, above, overfull, refuse, take, taken, grown, confirmed, freed}
+use Rattle.queue.specs.Queue.{Ruled, place, current, above, overfull, refuse, take, taken, grown}
+use Rattle.queue.specs.Queue.{confirmed, freed}
 
 -- ---- a queue that is not overfull, both ways
 pub ruled : (q : Queue) → overfull q ≡ false → Ruled q
@@ -46,6 +47,11 @@ below r h (past a e) = omega (arith, r .turn)
 
 pub place-below : (q : Queue) (k : ℕ) → Ruled q → k ≤ q .places → place q k < q .places
 place-below q k r h = below r h (turned q k)
+
+-- so is the place of the first unconfirmed request
+pub current-below : (q : Queue) → Ruled q → current q < q .places
+unfolding current
+current-below q r = place-below q (q .confirmed) r (omega (arith, r .used))
 
 -- no two places in use are one
 apart : {q : Queue} {k j p s : ℕ} → k < q .places → j < q .places → Turned q k p → Turned q j s → p ≡ s → k ≡ j

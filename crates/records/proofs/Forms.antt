@@ -19,7 +19,8 @@ use Rattle.queue.specs.declared.Collected.{Collected}
 use Rattle.queue.specs.declared.Collected.the-variants.{Refused}
 use Rattle.queue.specs.Queue.{AREA, Ruled, current, misfit, unlike, overfull, closed, refuse, taken, collected}
 use Rattle.records.specs.Records.{at, put, refusal, decided, confirm, handed}
-use Rattle.records.proofs.Laws.{ready-queue, ready-row, current-below, within-decided, length-put, at-put}
+use Rattle.queue.proofs.Laws.{current-below}
+use Rattle.records.proofs.Laws.{ready-queue, ready-row, within-decided, length-put, at-put}
 use Rattle.records.proofs.Laws.{at-other}
 
 -- a row of octets that holds a row of records

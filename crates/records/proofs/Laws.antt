@@ -12,7 +12,7 @@ use Rattle.choice.proofs.Rules.{true-same, false-same, passed, unrefused, grant
 use Rattle.request.specs.declared.Record.{Record}
 use Rattle.queue.specs.declared.Queue.{Queue}
 use Rattle.queue.specs.declared.Taken.{Taken}
-use Rattle.queue.specs.Queue.{Ruled, current, misfit, unlike, taken, take, refuse}
+use Rattle.queue.specs.Queue.{Ruled, misfit, unlike, taken, take, refuse}
 use Rattle.queue.proofs.Laws.{ruled, place-below}
 use Rattle.records.specs.Records.{blank, at, put, refusal, decided}
 
@@ -58,11 +58,6 @@ within-decided ts q r n places =
   where
     within-row : refusal q places ≡ 0 → Within places (taken ts q r n)
     within-row e = rw (ready-row q places e) (within-taken ts q r n (ready-queue q places e))
-
--- ---- the place of the first unconfirmed request is in the row
-pub current-below : (q : Queue) → Ruled q → current q < q .places
-unfolding current
-current-below q h = place-below q (q .confirmed) h (omega (arith, h .used))
 
 -- ---- a record put is the one there, and the others are as they were
 pub length-put : (row : List Record) (p : ℕ) (r : Record) → length (put row p r) ≡ length row

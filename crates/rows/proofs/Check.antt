@@ -1,11 +1,10 @@
 -- The check of the unconfirmed records, one by one, and what it says of them all. Assumes nothing.
 use Prim.Native.Nat.{ℕ, zero, suc, _+_, _-_, _<_}
-use mathlib.Core.Bool.{Bool, true, false, true≢false}
-use mathlib.Core.Path.{_≡_, refl, sym, _∙_}
+use mathlib.Core.Bool.{Bool, true, false}
+use mathlib.Core.Path.{_≡_, refl, _∙_}
 use mathlib.Core.List.{List}
 use native.Mathlib.Omega.{arith}
-use Rattle.choice.specs.Choice.{pick}
-use Rattle.choice.proofs.Rules.{pick-true, pick-false, same-true, same-false, true-same}
+use Rattle.choice.proofs.Rules.{pick-true, pick-false, same-true, same-false, true-same, both-true}
 use Rattle.request.specs.declared.Record.{Record}
 use Rattle.request.specs.Record.{unfit}
 use Rattle.queue.specs.declared.Queue.{Queue}
@@ -42,16 +41,11 @@ sound-none ts q row n h = rw h
 pub record Sound (ts : ℕ) (q : Queue) (row : List ℕ) : Type 0 where
   pub fit : (k : ℕ) → k < q .unconfirmed → fault ts q row k ≡ 0
 
-passing : (b y : Bool) → pick b y false ≡ true → (b ≡ true) × (y ≡ true)
-unfolding pick
-passing true y e = (refl, e)
-passing false y e = absurd (true≢false (sym e))
-
 each : (ts : ℕ) (q : Queue) (row : List ℕ) (n : ℕ) → sound ts q row n ≡ true → (k : ℕ) → k < n → fault ts q row k ≡ 0
 unfolding sound
 each ts q row zero e k h = absurd (omega arith)
 each ts q row (suc n) e k h =
-    let b = passing _ _ e in
+    let b = both-true _ _ e in
     let last : fault ts q row n ≡ 0 = true-same _ 0 (b .0) in
     by-order k n (λ l. each ts q row n (b .1) k l) (λ l. let i : k ≡ n = omega arith in rw i last)
 

@@ -7,7 +7,7 @@ use lib.ListN.{length}
 use Rattle.request.specs.Record.{DS}
 use Rattle.queue.specs.declared.Queue.{Queue}
 use Rattle.queue.specs.Queue.{AREA, Ruled, current, confirmed}
-use Rattle.queue.proofs.Laws.{ruled-confirmed, place-below}
+use Rattle.queue.proofs.Laws.{ruled-confirmed, current-below}
 use Rattle.rows.specs.Rows.{Lent, Left, left, confirm, drain}
 use Rattle.rows.proofs.Laws.{length-put, length-fill}
 
@@ -17,11 +17,6 @@ pub record Draining (q : Queue) (count : ℕ) (row₀ area₀ : List ℕ) (rest 
   pub lent : Lent rest row area
   pub places : rest .places ≡ q .places
   pub ends : drain (rest .unconfirmed) sendings (left rest row area) ≡ drain (q .unconfirmed) count (left q row₀ area₀)
-
--- the place of the first unconfirmed request is in the row
-pub current-below : (q : Queue) → Ruled q → current q < q .places
-unfolding current
-current-below q r = place-below q (q .confirmed) r (omega (arith, r .used))
 
 -- a confirmation keeps the row and the data area the queue's
 pub lent-confirmed : (q : Queue) (status count : ℕ) (x row area : List ℕ) → Ruled q → Lent q row area → length x ≤ AREA → Lent (confirmed q) (confirm q status count x row area .row) (confirm q status count x row area .area)

@@ -16,7 +16,7 @@ use Rattle.request.proofs.Laws.{fit-short}
 use Rattle.queue.specs.declared.Queue.{Queue}
 use Rattle.queue.specs.Queue.{Ruled, current}
 use Rattle.rows.specs.Rows.{Lent, at, content}
-use Rattle.rows.proofs.Draining.{current-below}
+use Rattle.queue.proofs.Laws.{current-below}
 use Rattle.state.specs.declared.Core.{Core}
 use Rattle.state.specs.declared.Priority.{Priority}
 use Rattle.state.specs.declared.Priority.the-variants.{High, Low}

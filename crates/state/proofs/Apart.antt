@@ -5,7 +5,7 @@ use mathlib.Core.Path.{_≡_, refl, sym, ap}
 use mathlib.Core.List.{List, [], _∷_}
 use lib.ListN.{length}
 use Rattle.choice.specs.Choice.{pick, said}
-use Rattle.choice.proofs.Rules.{true-same, less-true, pick-true, pick-false, said-true, said-false, is-said}
+use Rattle.choice.proofs.Rules.{true-same, less-true, pick-true, pick-false, said-true, said-false, is-said, both-true}
 use Rattle.control.specs.declared.Control.{Control}
 use Rattle.control.specs.declared.Control.the-variants.{Request, Reply}
 use Rattle.frame.specs.declared.Fields.the-variants.{Frame}
@@ -28,18 +28,13 @@ pub record Returned (ts : ℕ) (r : Record) (h : Head) : Type 0 where
   pub to : pointOf (h .to) ≡ r .from .0
   pub from : pointOf (h .from) ≡ r .to .0
 
-both : (b y : Bool) → pick b y false ≡ true → (b ≡ true) × (y ≡ true)
-unfolding pick
-both true y e = (refl, e)
-both false y e = absurd (true≢false (sym e))
-
 returned-is : (ts : ℕ) (r : Record) (h : Head) → returned ts r h ≡ true → Returned ts r h
 unfolding returned swapped
 returned-is ts r h e =
-    let a = both _ _ e in
-    let b = both _ _ (a .1) in
-    let d = both _ _ (b .1) in
-    let f = both _ _ (d .1) in
+    let a = both-true _ _ e in
+    let b = both-true _ _ (a .1) in
+    let d = both-true _ _ (b .1) in
+    let f = both-true _ _ (d .1) in
     record {
       destination = true-same _ _ (a .0);
       source = true-same _ _ (b .0);

@@ -23,6 +23,7 @@ use Rattle.frame.specs.declared.Fields.the-variants.{Token, Short, Frame}
 use Rattle.frame.specs.declared.Answer.the-variants.{Read}
 use Rattle.frame.specs.Format.{extension, unit, body, closing, sd1, sd2, framed, octets, unwritable, unwritableToken}
 use Rattle.frame.specs.Reading.{read, shown}
+use Rattle.frame.proofs.Lengths.{length-unit}
 use Rattle.frame_laws.proofs.Body.{writable}
 use Rattle.frame_laws.proofs.Accepted.{accepted, accepted-carried}
 use Rattle.frame_laws.proofs.Theorems.{read-writable}
@@ -75,10 +76,6 @@ unfolding unwritable
 read-source s h p e =
     let w = writable h _ (read-writable s (Frame h) p e) in
     omega (arith, w .source)
-
-length-unit : (h : Head) (x : List ℕ) → length x ≤ length (unit h x)
-unfolding unit
-length-unit h x = simp length-append (omega arith)
 
 -- its data fit a place
 pub read-short : (s : List ℕ) (f : Fields) (p : Part) → read s ≡ Read f p → length (shown s p) ≤ AREA

@@ -1,42 +1,31 @@
 -- What settings that are in rule tell: their sums are small. Assumes nothing.
 use Prim.Native.Nat.{ℕ, _*_, _≤_}
-use mathlib.Core.Bool.{Bool, true, false, true≢false}
-use mathlib.Core.Path.{_≡_, refl}
+use mathlib.Core.Bool.{false}
+use mathlib.Core.Path.{_≡_}
 use native.Mathlib.Nat.{mul-le-mul}
 use native.Mathlib.Omega.{arith}
-use Rattle.choice.specs.Choice.{pick, less}
-use Rattle.choice.proofs.Rules.{false-less, is-said}
+use Rattle.choice.specs.Choice.{less}
+use Rattle.choice.proofs.Rules.{false-less, unrefused, granted, is-said}
 use Rattle.times.specs.declared.Settings.{Settings}
 use Rattle.times.specs.Times.{outside, unruly, Small}
-
--- a chain of tests, each of which would have been true, came to false
-fell : (b : Bool) (y : Bool) → pick b true y ≡ false → (b ≡ false) × (y ≡ false)
-unfolding pick
-fell true y e = absurd (true≢false e)
-fell false y e = (refl, e)
-
-stood : (b : Bool) (y : Bool) → pick b y true ≡ false → (b ≡ true) × (y ≡ false)
-unfolding pick
-stood true y e = (refl, e)
-stood false y e = absurd (true≢false e)
 
 -- a number that is not outside is within
 pub outside-within : (n least most : ℕ) → outside n least most ≡ false → (least ≤ n) × (n ≤ most)
 unfolding outside
 outside-within n least most e =
-    let a = fell (less n least) _ e in
-    let b = fell (less most n) _ (a .1) in
+    let a = unrefused (less n least) _ e in
+    let b = unrefused (less most n) _ (a .1) in
     (false-less n least (a .0), false-less most n (b .0))
 
 pub ruly-small : (s : Settings) → unruly s ≡ false → Small s
 unfolding unruly
 ruly-small s e =
-    let a = fell _ _ e in
-    let b = fell _ _ (a .1) in
-    let c = fell _ _ (b .1) in
-    let d = stood _ _ (c .1) in
-    let f = fell _ _ (d .1) in
-    let g = fell _ _ (f .1) in
+    let a = unrefused _ _ e in
+    let b = unrefused _ _ (a .1) in
+    let c = unrefused _ _ (b .1) in
+    let d = granted _ _ (c .1) in
+    let f = unrefused _ _ (d .1) in
+    let g = unrefused _ _ (f .1) in
     record {
       tset = outside-within (s .tset .0) 20 255 (is-said (a .0)) .1;
       tqui = false-less 255 (s .tqui .0) (b .0);
@@ -48,9 +37,9 @@ ruly-small s e =
 pub ruly-retries : (s : Settings) → unruly s ≡ false → s .retries .0 ≤ 15
 unfolding unruly
 ruly-retries s e =
-    let d = stood _ _ (fell _ _ (fell _ _ (fell _ _ e .1) .1) .1) in
-    let g = fell _ _ (fell _ _ (d .1) .1) in
-    false-less 15 (s .retries .0) (fell _ _ (fell _ _ (g .1) .1) .0)
+    let d = granted _ _ (unrefused _ _ (unrefused _ _ (unrefused _ _ e .1) .1) .1) in
+    let g = unrefused _ _ (unrefused _ _ (d .1) .1) in
+    false-less 15 (s .retries .0) (unrefused _ _ (unrefused _ _ (g .1) .1) .0)
 
 -- 2 TS TSL is small
 pub small-product : (ts slot : ℕ) → ts ≤ 126 → slot ≤ 197383 → 2 * ts * slot ≤ 252 * 197383

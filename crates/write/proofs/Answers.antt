@@ -17,7 +17,7 @@ use Rattle.frame.specs.Format.{unit, body, framed, octets, outside, misdirected
 use Rattle.frame.specs.Format.{unwritable, unwritableFrame, refused, written, left}
 use Rattle.laid.specs.Laid.{laid}
 use Rattle.laid.proofs.Laws.{laid-start}
-use Rattle.write.proofs.Lengths.{length-body}
+use Rattle.frame.proofs.Lengths.{length-body}
 use Rattle.write.proofs.Frame.{start, length-framed}
 
 -- ---- the answer r and the output left behind for a frame f with the data x and an output o

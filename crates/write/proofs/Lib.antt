@@ -1,4 +1,3 @@
 pub mod Frame
-pub mod Lengths
 pub mod Answers
 pub mod Laying

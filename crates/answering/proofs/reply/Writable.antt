@@ -13,7 +13,7 @@ use Rattle.frame.specs.declared.Access.the-variants.{None, At}
 use Rattle.frame.specs.declared.Head.{Head}
 use Rattle.frame.specs.declared.Fields.the-variants.{Frame}
 use Rattle.frame.specs.Format.{extension, unit, outside, misdirected}
-use Rattle.write.proofs.Lengths.{length-unit}
+use Rattle.frame.proofs.Lengths.{length-unit}
 use Rattle.write.proofs.Laying.{Laying, Passed, laying-frame}
 use Rattle.state.specs.declared.Responder.{Responder}
 use Rattle.state.specs.Answering.{UPDATE, Answerable, replyHead}

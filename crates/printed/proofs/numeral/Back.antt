@@ -6,7 +6,7 @@ use mathlib.Core.Path.{_≡_, refl, sym, _∙_}
 use native.Mathlib.Omega.{arith}
 use lib.ListN.{length, length-append}
 use Rattle.choice.specs.Choice.{pick, less, said}
-use Rattle.choice.proofs.Rules.{pick-true, pick-false, less-false, true-less, false-less, same-false, said-true}
+use Rattle.choice.proofs.Rules.{pick-true, pick-false, less-false, true-less, false-less, same-false, said-true, both-true}
 use Rattle.typed.specs.Digits.{digit, allDigits, valueOn, number, readOn, decimal}
 use Rattle.printed.specs.Numeral.{numeral, numeralIn}
 use Rattle.printed.proofs.numeral.Steps.{numeral-one, numeral-more, power}
@@ -17,16 +17,11 @@ unfolding digit
 digit-char d h =
     pick-false _ _ (less-false (omega arith)) ∙ pick-false _ _ (less-false (omega arith))
 
--- a list that begins with a digit is digits if the rest is
-all-rest : (b a : Bool) → pick b a false ≡ true → (b ≡ true) × (a ≡ true)
-all-rest true a e = (refl, sym (pick-true a false refl) ∙ e)
-all-rest false a e = absurd (true≢false (sym e ∙ pick-false a false refl))
-
 all-behind : (l : List ℕ) (d : ℕ) → allDigits l ≡ true → d < 10 → allDigits (l ++ ((48 + d) ∷ [])) ≡ true
 unfolding allDigits
 all-behind [] d e h = pick-true _ _ (said-true refl (digit-char d h))
 all-behind (c ∷ l) d e h =
-    let b = all-rest (said (digit c)) (allDigits l) e in
+    let b = both-true (said (digit c)) (allDigits l) e in
     pick-true _ false (b .0) ∙ all-behind l d (b .1) h
 
 value-behind : (v : ℕ) (l : List ℕ) (d : ℕ) → valueOn v (l ++ ((48 + d) ∷ [])) ≡ 10 * valueOn v l + d

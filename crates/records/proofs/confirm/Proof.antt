@@ -62,7 +62,7 @@ use Rattle.queue.proofs.confirm.Symbol.{name as #queue·confirm}
 use Rattle.queue.proofs.confirm.Met as advance-thm
 use Rattle.records.specs.Records as Records
 use Rattle.records.specs.Records.{blank, left}
-use Rattle.records.proofs.Laws.{current-below}
+use Rattle.queue.proofs.Laws.{current-below}
 use Rattle.records.proofs.Row.{Row, lowered, row-vals, row-tells, row-makes, row-typed, Counts, counts-lowered}
 use Rattle.records.proofs.Row.{counts-vals, counts-tells, counts-makes, counts-typed, far}
 use Rattle.records.proofs.confirm.Key.{name as #records·confirm}

@@ -14,7 +14,7 @@ use Rattle.frame.specs.declared.Address.{Address}
 use Rattle.frame.specs.declared.Access.the-variants.{None, At}
 use Rattle.frame.specs.declared.Fields.the-variants.{Frame}
 use Rattle.frame.specs.Format.{extension, unit, outside, misdirected}
-use Rattle.write.proofs.Lengths.{length-unit}
+use Rattle.frame.proofs.Lengths.{length-unit}
 use Rattle.write.proofs.Laying.{Laying, Passed, laying-frame}
 use Rattle.request.specs.declared.Record.{Record}
 use Rattle.frame.specs.Access.{accessOf}

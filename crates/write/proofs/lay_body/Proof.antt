@@ -5,7 +5,7 @@ use lib.ListN.{length, length-set}
 use native.Mathlib.Omega.{arith}
 use Rattle.frame.specs.Format.{unit, body}
 use Rattle.write.proofs.Frame.{laid-three}
-use Rattle.write.proofs.Lengths.{length-body}
+use Rattle.frame.proofs.Lengths.{length-body}
 use borrow.Author.Needs.{needs}
 use Rattle.write.proofs.lay_body.Statement.{statement}
 use Rattle.write.proofs.lay_body.Tie as tie

@@ -5,7 +5,7 @@ use lib.ListN.{length}
 use native.Mathlib.Omega.{arith}
 use Rattle.frame.specs.Format.{extension, unit}
 use Rattle.laid.proofs.Laws.{lays-then}
-use Rattle.write.proofs.Lengths.{length-unit}
+use Rattle.frame.proofs.Lengths.{length-unit}
 use borrow.Author.Needs.{needs}
 use Rattle.write.proofs.lay_unit.Statement.{statement}
 use Rattle.write.proofs.lay_unit.Tie as tie

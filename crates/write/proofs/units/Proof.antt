@@ -1,7 +1,7 @@
 -- `write::units` meets its contract: the lengths of the unit's three pieces add up.
 -- Assumes nothing.
 use native.Mathlib.Omega.{arith}
-use Rattle.write.proofs.Lengths.{length-unit}
+use Rattle.frame.proofs.Lengths.{length-unit}
 use borrow.Author.Needs.{needs}
 use Rattle.write.proofs.units.Statement.{statement}
 use Rattle.write.proofs.units.Tie as tie

@@ -8,7 +8,7 @@ use native.Mathlib.Omega.{arith}
 use Rattle.frame.specs.declared.Head.{Head}
 use Rattle.frame.specs.declared.Fields.the-variants.{Frame}
 use Rattle.frame.specs.Format.{body, framed}
-use Rattle.write.proofs.Lengths.{length-body}
+use Rattle.frame.proofs.Lengths.{length-body}
 use Rattle.write.proofs.Frame.{start, length-start, laid-frame}
 use Rattle.write.proofs.Answers.{unwritten, Writes, short, wrote, Writable, writable, frame-refused}
 use Rattle.write.proofs.Answers.{writes-frame}
