@@ -30,51 +30,70 @@ use Rattle.refusals.proofs.Facts.{lent-rows, lawful, ruled-of}
 use Rattle.station_queues.specs.Decided.{refusalOf, taking, handing}
 
 -- two refusals and what follows them, each held against what it stands for
-both-of : {A B : Type 0} (f : A → B) (g : ℕ → A) (u l : Bool) {x y : B} (z : A) → f (g 21) ≡ x → f (g 29) ≡ y → f (pick (same (pick u 21 (pick l 29 0)) 0) z (g (pick u 21 (pick l 29 0)))) ≡ pick u x (pick l y (f z))
+both-of : {A B : Type 0} (f : A → B) (g : ℕ → A) (u l : Bool) {x y : B} (z : A) → f (g 21) ≡ x → f (g 29) ≡ y
+    → f (pick (same (pick u 21 (pick l 29 0)) 0) z (g (pick u 21 (pick l 29 0)))) ≡ pick u x (pick l y (f z))
 unfolding pick same
 both-of f g true l z e h = e
 both-of f g false true z e h = h
 both-of f g false false z e h = refl
 
 -- ---- submit
-refusing : (p : Priority) (k : ℕ) (q : Queue) (n : Record) (row area : List ℕ) (w : World) → same k 0 ≡ false → called (submitting p (left (refuse k q n) row area) (w .site)) w ≡ Calls.refuse k w
+refusing : (p : Priority) (k : ℕ) (q : Queue) (n : Record) (row area : List ℕ) (w : World) → same k 0 ≡ false
+    → called (submitting p (left (refuse k q n) row area) (w .site)) w ≡ Calls.refuse k w
 unfolding called submitting done withSite refuse Calls.refuse
 refusing p k q n row area w h = ap (λ (d : Done). called d w) (pick-false _ _ h)
 
 -- the call, by what it decided
 module _ (s : State) (n : Record) (x : List ℕ) (r : Rows) where
-  submit-by : (p : Priority) → called (submitting p (taking p (s .core) (s .masters .0) (s .started .0) (s .memory .kept) n x r) (lent p s r .site)) (lent p s r) ≡ Calls.submit p n x (lent p s r)
+  submit-by : (p : Priority)
+      → called (submitting p (taking p (s .core) (s .masters .0) (s .started .0) (s .memory .kept) n x r)
+      (lent p s r .site)) (lent p s r) ≡ Calls.submit p n x (lent p s r)
   unfolding Calls.submit taking refusalOf lent worldOf rowsOf queueOf
   submit-by High =
-      both-of (λ (t : Left Taken). called (submitting High t (worldOf s r noRows .site)) (worldOf s r noRows)) (λ (k : ℕ). left (refuse k (s .core .high) n) (r .row) (r .area)) _ _ _ (refusing High 21 _ n _ _ _ (same-false (omega arith))) (refusing High 29 _ n _ _ _ (same-false (omega arith)))
+      both-of (λ (t : Left Taken). called (submitting High t (worldOf s r noRows .site)) (worldOf s r noRows))
+      (λ (k : ℕ). left (refuse k (s .core .high) n) (r .row) (r .area)) _ _ _
+      (refusing High 21 _ n _ _ _ (same-false (omega arith)))
+      (refusing High 29 _ n _ _ _ (same-false (omega arith)))
   submit-by Low =
-      both-of (λ (t : Left Taken). called (submitting Low t (worldOf s noRows r .site)) (worldOf s noRows r)) (λ (k : ℕ). left (refuse k (s .core .low) n) (r .row) (r .area)) _ _ _ (refusing Low 21 _ n _ _ _ (same-false (omega arith))) (refusing Low 29 _ n _ _ _ (same-false (omega arith)))
+      both-of (λ (t : Left Taken). called (submitting Low t (worldOf s noRows r .site)) (worldOf s noRows r))
+      (λ (k : ℕ). left (refuse k (s .core .low) n) (r .row) (r .area)) _ _ _
+      (refusing Low 21 _ n _ _ _ (same-false (omega arith))) (refusing Low 29 _ n _ _ _ (same-false (omega arith)))
 
 -- a refused one leaves the state and the row
-left-refused : (p : Priority) (k : ℕ) (s : State) (r : Rows) → submittedOf p (called (done (lent p s r .site) (refused k ∷ [])) (lent p s r)) ≡ left (record { refused = k; state = s; place = 0 }) (r .row) (r .area)
+left-refused : (p : Priority) (k : ℕ) (s : State) (r : Rows)
+    → submittedOf p (called (done (lent p s r .site) (refused k ∷ [])) (lent p s r))
+    ≡ left (record { refused = k; state = s; place = 0 }) (r .row) (r .area)
 unfolding submittedOf acceptedOf called done withSite lent worldOf stateOf rowsOf telling adds untold
 left-refused High k s r = refl
 left-refused Low k s r = refl
 
-left-accepted : (p : Priority) (k : ℕ) (q : Queue) (row area : List ℕ) (s : State) (r : Rows) → submittedOf p (called (done (withRows p (record { row = row; area = area }) (withCore (withQueue p q (lent p s r .site .core)) (lent p s r .site))) (accepted p k ∷ [])) (lent p s r)) ≡ left (record { refused = 0; state = stateWith (withQueue p q (s .core)) s; place = k }) row area
+left-accepted : (p : Priority) (k : ℕ) (q : Queue) (row area : List ℕ) (s : State) (r : Rows)
+    → submittedOf p (called
+    (done (withRows p (record { row = row; area = area })
+    (withCore (withQueue p q (lent p s r .site .core)) (lent p s r .site))) (accepted p k ∷ [])) (lent p s r))
+    ≡ left (record { refused = 0; state = stateWith (withQueue p q (s .core)) s; place = k }) row area
 unfolding submittedOf acceptedOf called done withSite withRows withCore withQueue lent worldOf stateOf stateWith rowsOf telling adds untold
 left-accepted High k q row area s r = refl
 left-accepted Low k q row area s r = refl
 
 -- what was decided leaves the row and the data area where it refuses
-submitted-kept : (ts : ℕ) (q : Queue) (n : Record) (x row area : List ℕ) {w : Left Taken} → Outcome ts q n x row area w → (w .answer .refused ≡ 0 → ⊥) → (w .row ≡ row) × (w .area ≡ area)
+submitted-kept : (ts : ℕ) (q : Queue) (n : Record) (x row area : List ℕ) {w : Left Taken}
+    → Outcome ts q n x row area w → (w .answer .refused ≡ 0 → ⊥) → (w .row ≡ row) × (w .area ≡ area)
 unfolding take
 submitted-kept ts q n x row area (as-it-was k z e) h = rw (← e) (refl, refl)
 submitted-kept ts q n x row area (with-it a e) h = absurd (h (rw (← e)))
 
 module _ (p : Priority) (c : Core) (masters started : List ℕ) (k : Kept) (n : Record) (x : List ℕ) (r : Rows) where
-  taking-kept-by : (u l : Bool) → unlent (queueOf p c) r ≡ u → lawless c masters started k ≡ l → (taking p c masters started k n x r .answer .refused ≡ 0 → ⊥) → (taking p c masters started k n x r .row ≡ r .row) × (taking p c masters started k n x r .area ≡ r .area)
+  taking-kept-by : (u l : Bool) → unlent (queueOf p c) r ≡ u → lawless c masters started k ≡ l
+      → (taking p c masters started k n x r .answer .refused ≡ 0 → ⊥)
+      → (taking p c masters started k n x r .row ≡ r .row) × (taking p c masters started k n x r .area ≡ r .area)
   unfolding taking refusalOf pick same said
   taking-kept-by true l e f h = rw e (refl, refl)
   taking-kept-by false true e f h = rw (e, f) (refl, refl)
   taking-kept-by false false e f h = rw (e, f) (submitted-kept _ _ n x _ _ (outcome _ _ n x _ _) (rw (e, f) at h))
 
-  taking-kept : (taking p c masters started k n x r .answer .refused ≡ 0 → ⊥) → (taking p c masters started k n x r .row ≡ r .row) × (taking p c masters started k n x r .area ≡ r .area)
+  taking-kept : (taking p c masters started k n x r .answer .refused ≡ 0 → ⊥)
+      → (taking p c masters started k n x r .row ≡ r .row) × (taking p c masters started k n x r .area ≡ r .area)
   taking-kept h = taking-kept-by _ _ refl refl h
 
 -- where neither refuses, the queue's counts are in order, and the row and the data area are its own
@@ -87,22 +106,35 @@ unrefused-lent p c masters started k r e =
     (ruled-of c p (lawful c masters started k (is-said (l .0))), lent-rows (queueOf p c) r (is-said (u .0)))
 
 -- the call, refused and carried out, by what the code finds
-module _ (s : State) (p : Priority) (n : Record) (x row area : List ℕ) {t : Taken} {row′ area′ : List ℕ} (e : left t row′ area′ ≡ taking p (s .core) (s .masters .0) (s .started .0) (s .memory .kept) n x (rows row area)) where
-  by-decision : submittedOf p (called (submitting p (left t row′ area′) (lent p s (rows row area) .site)) (lent p s (rows row area))) ≡ submittedOf p (Calls.submit p n x (lent p s (rows row area)))
+module _ (s : State) (p : Priority) (n : Record) (x row area : List ℕ) {t : Taken} {row′ area′ : List ℕ}
+    (e : left t row′ area′
+    ≡ taking p (s .core) (s .masters .0) (s .started .0) (s .memory .kept) n x (rows row area)) where
+  by-decision : submittedOf p
+      (called (submitting p (left t row′ area′) (lent p s (rows row area) .site)) (lent p s (rows row area)))
+      ≡ submittedOf p (Calls.submit p n x (lent p s (rows row area)))
   by-decision = rw e (ap (submittedOf p) (submit-by s n x (rows row area) p))
 
-  pub submit-refused : (t .refused ≡ 0 → ⊥) → left (record { refused = t .refused; state = s; place = 0 }) row′ area′ ≡ submittedOf p (Calls.submit p n x (lent p s (rows row area)))
+  pub submit-refused : (t .refused ≡ 0 → ⊥)
+      → left (record { refused = t .refused; state = s; place = 0 }) row′ area′
+      ≡ submittedOf p (Calls.submit p n x (lent p s (rows row area)))
   unfolding submitting
   submit-refused h =
-      let k = taking-kept p (s .core) (s .masters .0) (s .started .0) (s .memory .kept) n x (rows row area) (rw (← e) h) in
+      let k = taking-kept p (s .core) (s .masters .0) (s .started .0) (s .memory .kept) n x (rows row area)
+      (rw (← e) h) in
       rw (ap (λ (l : Left Taken). l .row) e ∙ k .0, ap (λ (l : Left Taken). l .area) e ∙ k .1)
-      (sym (left-refused p (t .refused) s (rows row area)) ∙ ap (λ (d : Done). submittedOf p (called d (lent p s (rows row area)))) (sym (pick-false _ _ (same-false h))) ∙ by-decision)
+      (sym (left-refused p (t .refused) s (rows row area))
+      ∙ ap (λ (d : Done). submittedOf p (called d (lent p s (rows row area)))) (sym (pick-false _ _ (same-false h)))
+      ∙ by-decision)
 
-  pub submit-taken : {c : Core} → t .refused ≡ 0 → c ≡ withQueue p (t .queue) (s .core) → left (record { refused = 0; state = stateWith c s; place = t .place }) row′ area′ ≡ submittedOf p (Calls.submit p n x (lent p s (rows row area)))
+  pub submit-taken : {c : Core} → t .refused ≡ 0 → c ≡ withQueue p (t .queue) (s .core)
+      → left (record { refused = 0; state = stateWith c s; place = t .place }) row′ area′
+      ≡ submittedOf p (Calls.submit p n x (lent p s (rows row area)))
   unfolding submitting
   submit-taken h b =
       rw b
-      (sym (left-accepted p (t .place) (t .queue) row′ area′ s (rows row area)) ∙ ap (λ (d : Done). submittedOf p (called d (lent p s (rows row area)))) (sym (pick-true _ _ (same-true h))) ∙ by-decision)
+      (sym (left-accepted p (t .place) (t .queue) row′ area′ s (rows row area))
+      ∙ ap (λ (d : Done). submittedOf p (called d (lent p s (rows row area)))) (sym (pick-true _ _ (same-true h)))
+      ∙ by-decision)
 
 -- ---- collect
 uncollecting : (p : Priority) (k : ℕ) (w : World) → called (collecting p (Refused k) (w .site)) w ≡ Calls.refuse k w
@@ -110,14 +142,19 @@ unfolding called collecting done withSite Calls.refuse
 uncollecting p k w = refl
 
 module _ (s : State) (r : Rows) where
-  collect-by : (p : Priority) → called (collecting p (handing p (s .core) (s .masters .0) (s .started .0) (s .memory .kept) r) (lent p s r .site)) (lent p s r) ≡ Calls.collect p (lent p s r)
+  collect-by : (p : Priority)
+      → called (collecting p (handing p (s .core) (s .masters .0) (s .started .0) (s .memory .kept) r)
+      (lent p s r .site)) (lent p s r) ≡ Calls.collect p (lent p s r)
   unfolding Calls.collect handing refusalOf lent worldOf rowsOf queueOf
   collect-by High =
-      both-of (λ (c : Collected). called (collecting High c (worldOf s r noRows .site)) (worldOf s r noRows)) Refused _ _ _ (uncollecting High 21 _) (uncollecting High 29 _)
+      both-of (λ (c : Collected). called (collecting High c (worldOf s r noRows .site))
+      (worldOf s r noRows)) Refused _ _ _ (uncollecting High 21 _) (uncollecting High 29 _)
   collect-by Low =
-      both-of (λ (c : Collected). called (collecting Low c (worldOf s noRows r .site)) (worldOf s noRows r)) Refused _ _ _ (uncollecting Low 21 _) (uncollecting Low 29 _)
+      both-of (λ (c : Collected). called (collecting Low c (worldOf s noRows r .site))
+      (worldOf s noRows r)) Refused _ _ _ (uncollecting Low 21 _) (uncollecting Low 29 _)
 
-handed-by : (p : Priority) (c : Collected) (s : State) (r : Rows) → handOf p c s ≡ handedBackOf (called (collecting p c (lent p s r .site)) (lent p s r))
+handed-by : (p : Priority) (c : Collected) (s : State) (r : Rows)
+    → handOf p c s ≡ handedBackOf (called (collecting p c (lent p s r .site)) (lent p s r))
 unfolding handOf handedBackOf called collecting done withSite withCore withQueue lent worldOf stateOf stateWith telling adds untold
 handed-by High (Refused k) s r = refl
 handed-by High (Handed k n q) s r = refl
@@ -125,14 +162,20 @@ handed-by Low (Refused k) s r = refl
 handed-by Low (Handed k n q) s r = refl
 
 -- the call, by what the code finds: nothing to hand back, or a record
-module _ (s : State) (p : Priority) (row area : List ℕ) {c : Collected} (e : c ≡ handing p (s .core) (s .masters .0) (s .started .0) (s .memory .kept) (rows row area)) where
+module _ (s : State) (p : Priority) (row area : List ℕ) {c : Collected}
+    (e : c ≡ handing p (s .core) (s .masters .0) (s .started .0) (s .memory .kept) (rows row area)) where
   collect-hand : handOf p c s ≡ handedBackOf (Calls.collect p (lent p s (rows row area)))
   collect-hand = rw e (handed-by p _ s (rows row area) ∙ ap handedBackOf (collect-by s (rows row area) p))
 
-  pub collect-refused : {k : ℕ} {n : Record} → c ≡ Refused k → n ≡ untold .entry → record { refused = k; state = s; place = 0; entry = n } ≡ handedBackOf (Calls.collect p (lent p s (rows row area)))
+  pub collect-refused : {k : ℕ} {n : Record} → c ≡ Refused k → n ≡ untold .entry
+      → record { refused = k; state = s; place = 0; entry = n }
+      ≡ handedBackOf (Calls.collect p (lent p s (rows row area)))
   unfolding handOf
   collect-refused h b = rw b (ap (λ (c : Collected). handOf p c s) (sym h) ∙ collect-hand)
 
-  pub collect-handed : {k : ℕ} {n : Record} {r : Queue} {core : Core} → c ≡ Handed k n r → core ≡ withQueue p r (s .core) → record { refused = 0; state = stateWith core s; place = k; entry = n } ≡ handedBackOf (Calls.collect p (lent p s (rows row area)))
+  pub collect-handed : {k : ℕ} {n : Record} {r : Queue} {core : Core} → c ≡ Handed k n r
+      → core ≡ withQueue p r (s .core)
+      → record { refused = 0; state = stateWith core s; place = k; entry = n }
+      ≡ handedBackOf (Calls.collect p (lent p s (rows row area)))
   unfolding handOf
   collect-handed h b = rw b (ap (λ (c : Collected). handOf p c s) (sym h) ∙ collect-hand)

@@ -37,32 +37,47 @@ module _ (clock d a : ℕ) (s : Site) where
         unfolding token
         second-time k = sym (if-same _ h (unless-same _ i (unless-same _ j (if-same _ k refl))))
 
-        pub first-time : (a ≡ s .core .stranger .0 → ⊥) → token clock d a s ≡ still (withCore (withStranger (record { 0 = a }) (s .core)) s)
+        pub first-time : (a ≡ s .core .stranger .0 → ⊥)
+            → token clock d a s ≡ still (withCore (withStranger (record { 0 = a }) (s .core)) s)
         unfolding token
         first-time k = sym (if-same _ h (unless-same _ i (unless-same _ j (unless-same _ k refl))))
 
 -- ---- the acts, by the values that the code comes by
 module _ (masters marks : List ℕ) (high low : Rows) where
-  pub does-still : (c : Core) (out : List ℕ) {r : Moved} → r ≡ record { core = c; length = 0; wait = record { 0 = 0 } } → Does (still (siteOf c masters marks high low)) out r masters marks high low out
+  pub does-still : (c : Core) (out : List ℕ) {r : Moved}
+      → r ≡ record { core = c; length = 0; wait = record { 0 = 0 } }
+      → Does (still (siteOf c masters marks high low)) out r masters marks high low out
   unfolding still telling untold
   does-still c out e = rw e (record { site = refl; wait = refl; laid = lays-nothing out })
 
-  pub does-remember : (c : Core) (a : Address) (out : List ℕ) {r : Moved} {c′ : Core} → c′ ≡ withStranger a c → r ≡ record { core = c′; length = 0; wait = record { 0 = 0 } } → Does (still (withCore (withStranger (record { 0 = a .0 }) c) (siteOf c masters marks high low))) out r masters marks high low out
+  pub does-remember : (c : Core) (a : Address) (out : List ℕ) {r : Moved} {c′ : Core} → c′ ≡ withStranger a c
+      → r ≡ record { core = c′; length = 0; wait = record { 0 = 0 } }
+      → Does (still (withCore (withStranger (record { 0 = a .0 }) c)
+      (siteOf c masters marks high low))) out r masters marks high low out
   unfolding withCore
   does-remember c a out e f = does-still (withStranger a c) out (rw e at f)
 
-  is-admitted : (c : Core) (a : Address) {c′ : Core} {masters′ : List ℕ} → c′ ≡ withPs a c → masters′ ≡ enter masters (a .0) → admit (a .0) (siteOf c masters marks high low) ≡ siteOf c′ masters′ marks high low
+  is-admitted : (c : Core) (a : Address) {c′ : Core} {masters′ : List ℕ} → c′ ≡ withPs a c
+      → masters′ ≡ enter masters (a .0)
+      → admit (a .0) (siteOf c masters marks high low) ≡ siteOf c′ masters′ marks high low
   unfolding admit withCore withMasters
   is-admitted c a e f = rw (e, f)
 
-  pub does-admitted : (clock : ℕ) (c : Core) (a : Address) {c′ : Core} {masters′ out out′ : List ℕ} {r : Moved} → c′ ≡ withPs a c → masters′ ≡ enter masters (a .0) → Does (begin clock (siteOf c′ masters′ marks high low)) out r masters′ marks high low out′ → Does (begin clock (admit (a .0) (siteOf c masters marks high low))) out r masters′ marks high low out′
+  pub does-admitted : (clock : ℕ) (c : Core) (a : Address) {c′ : Core} {masters′ out out′ : List ℕ} {r : Moved}
+      → c′ ≡ withPs a c → masters′ ≡ enter masters (a .0)
+      → Does (begin clock (siteOf c′ masters′ marks high low)) out r masters′ marks high low out′
+      → Does (begin clock (admit (a .0) (siteOf c masters marks high low))) out r masters′ marks high low out′
   does-admitted clock c a e f d = rw (is-admitted c a e f) d
 
-  is-without : (c : Core) (n : ℕ) (a : Address) {c′ : Core} {masters′ : List ℕ} → n ≡ nextOf masters (c .ts .0) → masters′ ≡ remove masters n → a .0 ≡ psWithout n masters′ c → c′ ≡ withPs a c → without (siteOf c masters marks high low) ≡ siteOf c′ masters′ marks high low
+  is-without : (c : Core) (n : ℕ) (a : Address) {c′ : Core} {masters′ : List ℕ} → n ≡ nextOf masters (c .ts .0)
+      → masters′ ≡ remove masters n → a .0 ≡ psWithout n masters′ c → c′ ≡ withPs a c
+      → without (siteOf c masters marks high low) ≡ siteOf c′ masters′ marks high low
   unfolding without ns withCore withMasters
   is-without c n a e f g i = rw (← e, ← f, ← g, i)
 
-  does-pass-again : (c : Core) (n : ℕ) {out out′ : List ℕ} {r : Moved} → n ≡ nextOf masters (c .ts .0) → Sends (withDoing (once (c .doing)) c) (sends aToken (tokenTo n c) (waitFor c Other) ∷ []) out r out′ → Does (passAgain (siteOf c masters marks high low)) out r masters marks high low out′
+  does-pass-again : (c : Core) (n : ℕ) {out out′ : List ℕ} {r : Moved} → n ≡ nextOf masters (c .ts .0)
+      → Sends (withDoing (once (c .doing)) c) (sends aToken (tokenTo n c) (waitFor c Other) ∷ []) out r out′
+      → Does (passAgain (siteOf c masters marks high low)) out r masters marks high low out′
   unfolding passAgain ns
   does-pass-again c n e s = rw (← e) (does-sends c s)
 
@@ -76,14 +91,20 @@ unfolding recheck
 leaves-at s h = sym (unless-less _ h refl)
 
 module _ (c : Core) (masters : List ℕ) (n : ℕ) {out out′ : List ℕ} {r : Moved} (e : n ≡ nextOf masters (c .ts .0)) where
-  pub rechecks-again : c .doing .sendings < 3 → Sends (withDoing (once (c .doing)) c) (sends aToken (tokenTo n c) (waitFor c Other) ∷ []) out r out′ → Rechecks c masters out r masters out′
+  pub rechecks-again : c .doing .sendings < 3
+      → Sends (withDoing (once (c .doing)) c) (sends aToken (tokenTo n c) (waitFor c Other) ∷ []) out r out′
+      → Rechecks c masters out r masters out′
   rechecks-again h s =
       record {
         does = λ k hi lo. rw (again-below (siteOf c masters k hi lo) h) (does-pass-again masters k hi lo c n e s);
       }
 
-  pub rechecks-next : (a : Address) (m : ℕ) {c′ : Core} {masters′ : List ℕ} → 3 ≤ c .doing .sendings → masters′ ≡ remove masters n → a .0 ≡ psWithout n masters′ c → c′ ≡ withPs a c → m ≡ nextOf masters′ (c′ .ts .0) → Sends (passCore m c′) (passEvents m c′) out r out′ → Rechecks c masters out r masters′ out′
+  pub rechecks-next : (a : Address) (m : ℕ) {c′ : Core} {masters′ : List ℕ} → 3 ≤ c .doing .sendings
+      → masters′ ≡ remove masters n → a .0 ≡ psWithout n masters′ c → c′ ≡ withPs a c
+      → m ≡ nextOf masters′ (c′ .ts .0) → Sends (passCore m c′) (passEvents m c′) out r out′
+      → Rechecks c masters out r masters′ out′
   rechecks-next a m {c′ = c′} h f g i j s =
       record {
-        does = λ k hi lo. rw (leaves-at (siteOf c masters k hi lo) h, is-without masters k hi lo c n a e f g i) (does-pass c′ m j s);
+        does = λ k hi lo. rw (leaves-at (siteOf c masters k hi lo) h, is-without masters k hi lo c n a e f g i)
+            (does-pass c′ m j s);
       }

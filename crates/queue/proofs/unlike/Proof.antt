@@ -21,7 +21,9 @@ small : {places each : ℕ} → places ≤ 255 → each ≤ 255 → each * place
 small {places} {each} p e = mul-le-mul {n₁ = each} {m₁ = places} {n₂ = 255} {m₂ = 255} e p
 
 mul-if3 : tie.Need-mul-if3
-mul-if3 c = omega (arith, small (c .before .before .pre .0) (c .before .before .pre .1))
+mul-if3 c =
+    let start : tie.Start = search depth 0 in
+    omega (arith, small (start .pre .0) (start .pre .1))
 
 returns-3 : tie.Need-returns-3
 unfolding unlike

@@ -20,7 +20,10 @@ unfolding lawless
 returns-3 c = search (picks, asked) depth 20
 
 odd-requires : tie.Need-odd-requires
-odd-requires c κs = startable-ts _ _ _ (started-startable _ _ _ (sym (c .before .before .before .before .before .unstarted .ensures) ∙ c .before .before .before .before .if1 .left))
+odd-requires c κs =
+    let else1 : tie.Else1 = search depth 0 in
+    let after-unstarted : tie.After-unstarted = search depth 0 in
+    startable-ts _ _ _ (started-startable _ _ _ (sym (after-unstarted .unstarted .ensures) ∙ else1 .if1 .left))
 
 returns-4 : tie.Need-returns-4
 unfolding lawless

@@ -25,9 +25,14 @@ returns-4 c = search (picks, asked) depth 20
 
 unsound-requires : tie.Need-unsound-requires
 unsound-requires c κs =
-    let high = lent-rows _ _ (sym (c .before .before .before .before .before .before .before .unlent .ensures) ∙ c .before .before .before .before .before .before .if1 .left) in
-    let low = lent-rows _ _ (sym (c .before .before .before .before .before .unlent2 .ensures) ∙ c .before .before .before .before .if2 .left) in
-    (lawful _ _ _ _ (sym (c .before .lawless .ensures) ∙ c .if4 .left), (high .places, low .places))
+    let after-lawless : tie.After-lawless = search depth 0 in
+    let else2 : tie.Else2 = search depth 0 in
+    let after-unlent2 : tie.After-unlent2 = search depth 0 in
+    let else1 : tie.Else1 = search depth 0 in
+    let after-unlent : tie.After-unlent = search depth 0 in
+    let high = lent-rows _ _ (sym (after-unlent .unlent .ensures) ∙ else1 .if1 .left) in
+    let low = lent-rows _ _ (sym (after-unlent2 .unlent2 .ensures) ∙ else2 .if2 .left) in
+    (lawful _ _ _ _ (sym (after-lawless .lawless .ensures) ∙ c .if4 .left), (high .places, low .places))
 
 returns-5 : tie.Need-returns-5
 unfolding refusalIn

@@ -12,7 +12,9 @@ unfolding unstarted
 returns c = search (picks, asked) depth 20
 
 member-requires : tie.Need-member-requires
-member-requires c κs = startable-ts _ _ _ (sym (c .before .unstartable .ensures) ∙ c .if1 .left)
+member-requires c κs =
+    let after-unstartable : tie.After-unstartable = search depth 0 in
+    startable-ts _ _ _ (sym (after-unstartable .unstartable .ensures) ∙ c .if1 .left)
 
 returns-2 : tie.Need-returns-2
 unfolding unstarted

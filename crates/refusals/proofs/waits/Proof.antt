@@ -6,10 +6,14 @@ use Rattle.refusals.proofs.waits.Statement.{statement}
 use Rattle.refusals.proofs.waits.Tie as tie
 
 returns : tie.Need-returns
-returns c = sym (same-true (rw (← c .before .before .queue-of .ensures) (c .if1 .taken)))
+returns c =
+    let after-queue-of : tie.After-queue-of = search depth 0 in
+    sym (same-true (rw (← after-queue-of .queue-of .ensures) (c .if1 .taken)))
 
 returns-2 : tie.Need-returns-2
-returns-2 c = sym (same-false (rw (← c .before .before .queue-of .ensures) (c .if1 .left)))
+returns-2 c =
+    let after-queue-of : tie.After-queue-of = search depth 0 in
+    sym (same-false (rw (← after-queue-of .queue-of .ensures) (c .if1 .left)))
 
 pub waits-spec : {M : Type 1} → statement M
 waits-spec = tie.close (tie.spec (λ c κs. search needs) returns returns-2)

@@ -9,11 +9,17 @@ use Rattle.request.proofs.overlong.Tie as tie
 
 returns : tie.Need-returns
 unfolding overlong
-returns c = if-less _ (omega (arith, c .if1 .taken, c .before .before .extensions .ensures, c .before .extensions2 .ensures)) refl
+returns c =
+    let after-extensions2 : tie.After-extensions2 = search depth 0 in
+    let after-extensions : tie.After-extensions = search depth 0 in
+    if-less _ (omega (arith, c .if1 .taken, after-extensions .extensions .ensures, after-extensions2 .extensions2 .ensures)) refl
 
 returns-2 : tie.Need-returns-2
 unfolding overlong
-returns-2 c = unless-less _ (omega (arith, c .if1 .left, c .before .before .extensions .ensures, c .before .extensions2 .ensures)) refl
+returns-2 c =
+    let after-extensions2 : tie.After-extensions2 = search depth 0 in
+    let after-extensions : tie.After-extensions = search depth 0 in
+    unless-less _ (omega (arith, c .if1 .left, after-extensions .extensions .ensures, after-extensions2 .extensions2 .ensures)) refl
 
 pub overlong-spec : {M : Type 1} → statement M
 overlong-spec =

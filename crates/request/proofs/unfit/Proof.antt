@@ -11,11 +11,20 @@ use Rattle.request.proofs.unfit.Tie as tie
 
 returns : tie.Need-returns
 returns c =
-    let a = c .before .before .before .before .before .before .before .before .before .before .args in
+    let after-unserved : tie.After-unserved = search depth 0 in
+    let then5 : tie.Then5 = search depth 0 in
+    let then4 : tie.Then4 = search depth 0 in
+    let after-usual2 : tie.After-usual2 = search depth 0 in
+    let then3 : tie.Then3 = search depth 0 in
+    let after-usual : tie.After-usual = search depth 0 in
+    let then2 : tie.Then2 = search depth 0 in
+    let then1 : tie.Then1 = search depth 0 in
+    let start : tie.Start = search depth 0 in
+    let a = start .args in
     sym
-    (fit (a .ts .0) (a .r) (a .n) (c .before .before .before .before .before .before .before .before .before .if1 .taken) (c .before .before .before .before .before .before .before .if2 .taken)
-    (sym (c .before .before .before .before .before .before .usual .ensures) ∙ c .before .before .before .before .before .if3 .taken) (sym (c .before .before .before .before .usual2 .ensures) ∙ c .before .before .before .if4 .taken)
-    (c .before .before .if5 .taken) (sym (c .before .unserved .ensures) ∙ not-true _ (c .if6 .taken)))
+    (fit (a .ts .0) (a .r) (a .n) (then1 .if1 .taken) (then2 .if2 .taken)
+    (sym (after-usual .usual .ensures) ∙ then3 .if3 .taken) (sym (after-usual2 .usual2 .ensures) ∙ then4 .if4 .taken)
+    (then5 .if5 .taken) (sym (after-unserved .unserved .ensures) ∙ not-true _ (c .if6 .taken)))
 
 returns-2 : tie.Need-returns-2
 unfolding unfit

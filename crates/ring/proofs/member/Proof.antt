@@ -9,11 +9,15 @@ use Rattle.ring.proofs.member.Tie as tie
 
 returns : tie.Need-returns
 unfolding member
-returns c = sym (same-true (rw (← c .before .before .wide .ensures .0) (c .if1 .taken)))
+returns c =
+    let after-wide : tie.After-wide = search depth 0 in
+    sym (same-true (rw (← after-wide .wide .ensures .0) (c .if1 .taken)))
 
 returns-2 : tie.Need-returns-2
 unfolding member
-returns-2 c = sym (same-false (rw (← c .before .before .wide .ensures .0) (c .if1 .left)))
+returns-2 c =
+    let after-wide : tie.After-wide = search depth 0 in
+    sym (same-false (rw (← after-wide .wide .ensures .0) (c .if1 .left)))
 
 pub member-spec : {M : Type 1} → statement M
 member-spec = tie.close (tie.spec (λ c κs. search needs) (λ c. search needs) returns returns-2)

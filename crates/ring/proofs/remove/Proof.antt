@@ -6,7 +6,9 @@ use Rattle.ring.proofs.remove.Tie as tie
 
 returns : tie.Need-returns
 unfolding remove
-returns c = rw (← c .before .wide .ensures .0) (c .write-place .ensures)
+returns c =
+    let after-wide : tie.After-wide = search depth 0 in
+    rw (← after-wide .wide .ensures .0) (c .write-place .ensures)
 
 pub remove-spec : {M : Type 1} → statement M
 remove-spec = tie.close (tie.spec (λ c κs. search needs) (λ c κs. search needs) returns)

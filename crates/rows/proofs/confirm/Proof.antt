@@ -7,19 +7,29 @@ use Rattle.rows.proofs.confirm.Tie as tie
 
 put-requires : tie.Need-put-requires
 put-requires c κs =
-    let p = c .before .before .before .before .before .before .before .before .pre in
-    omega (arith, c .before .before .before .before .current .ensures .1, p)
+    let after-current : tie.After-current = search depth 0 in
+    let start : tie.Start = search depth 0 in
+    let p = start .pre in
+    omega (arith, after-current .current .ensures .1, p)
 
 fill-requires : tie.Need-fill-requires
 fill-requires c κs =
-    let p = c .before .before .before .before .before .before .before .before .before .before .before .before .pre in
-    let h = c .before .before .before .before .before .before .before .before .current .ensures .1 in
+    let after-at : tie.After-at = search depth 0 in
+    let after-current : tie.After-current = search depth 0 in
+    let start : tie.Start = search depth 0 in
+    let p = start .pre in
+    let h = after-current .current .ensures .1 in
     (omega (arith, h, p), omega (arith, p))
 
 returns : tie.Need-returns
 unfolding confirm
 returns c =
-    cc (c .before .before .before .before .before .before .before .before .before .before .before .before .current .ensures .0, c .before .before .before .before .before .before .before .before .before .before .at .ensures, c .before .before .before .before .before .before .before .before .before .close .ensures, c .before .before .before .before .before .before .before .put .ensures, c .before .before .before .fill .ensures, c .confirm .ensures)
+    let after-fill : tie.After-fill = search depth 0 in
+    let after-put : tie.After-put = search depth 0 in
+    let after-close : tie.After-close = search depth 0 in
+    let after-at : tie.After-at = search depth 0 in
+    let after-current : tie.After-current = search depth 0 in
+    cc (after-current .current .ensures .0, after-at .at .ensures, after-close .close .ensures, after-put .put .ensures, after-fill .fill .ensures, c .confirm .ensures)
 
 pub confirm-spec : {M : Type 1} → statement M
 confirm-spec =

@@ -12,28 +12,49 @@ abbrev μ-loop : tie.MeasureT-loop
 μ-loop count row₀ area₀ rest₀ sendings₀ t7 row area rest sendings = rest .unconfirmed
 
 loop-holds : tie.Need-loop-holds Inv-loop μ-loop
-loop-holds c = record { ruled = c .before .before .pre .0; lent = c .before .before .pre .1; places = refl; ends = refl }
+loop-holds c =
+    let start : tie.Start Inv-loop μ-loop = search depth 0 in
+    record { ruled = start .pre .0; lent = start .pre .1; places = refl; ends = refl }
 
 slice-aggregate-confirm : tie.Need-slice-aggregate-confirm Inv-loop μ-loop
 slice-aggregate-confirm c = refl
 
 confirm-requires : tie.Need-confirm-requires Inv-loop μ-loop
-confirm-requires c κs = (c .before .before .before .before .before .loop .inv .ruled, (omega (arith, c .before .before .before .if1 .taken), (c .before .before .before .before .before .loop .inv .lent, omega arith)))
+confirm-requires c κs =
+    let then1 : tie.Then1 Inv-loop μ-loop = search depth 0 in
+    let at-loop : tie.At-loop Inv-loop μ-loop = search depth 0 in
+    (at-loop .loop .inv .ruled, (omega (arith, then1 .if1 .taken), (at-loop .loop .inv .lent, omega arith)))
 
 loop-less : tie.Need-loop-less Inv-loop μ-loop
-loop-less c = draining-fewer (c .before .before .before .before .before .before .before .before .before .before .loop .inv) (omega (arith, c .before .before .before .before .before .before .before .before .if1 .taken)) (c .before .before .before .before .confirm .ensures)
+loop-less c =
+    let after-confirm : tie.After-confirm Inv-loop μ-loop = search depth 0 in
+    let then1 : tie.Then1 Inv-loop μ-loop = search depth 0 in
+    let at-loop : tie.At-loop Inv-loop μ-loop = search depth 0 in
+    draining-fewer (at-loop .loop .inv) (omega (arith, then1 .if1 .taken)) (after-confirm .confirm .ensures)
 
 loop-again : tie.Need-loop-again Inv-loop μ-loop
-loop-again c = draining-one (c .before .before .before .before .before .before .before .before .before .before .loop .inv) (omega (arith, c .before .before .before .before .before .before .before .before .if1 .taken)) (c .before .before .before .before .confirm .ensures)
+loop-again c =
+    let after-confirm : tie.After-confirm Inv-loop μ-loop = search depth 0 in
+    let then1 : tie.Then1 Inv-loop μ-loop = search depth 0 in
+    let at-loop : tie.At-loop Inv-loop μ-loop = search depth 0 in
+    draining-one (at-loop .loop .inv) (omega (arith, then1 .if1 .taken)) (after-confirm .confirm .ensures)
 
 same-length : tie.Need-same-length Inv-loop μ-loop
-same-length c = draining-lengths (c .before .before .loop .inv) (c .before .before .before .before .before .pre .1) .0
+same-length c =
+    let at-loop : tie.At-loop Inv-loop μ-loop = search depth 0 in
+    let start : tie.Start Inv-loop μ-loop = search depth 0 in
+    draining-lengths (at-loop .loop .inv) (start .pre .1) .0
 
 same-length-2 : tie.Need-same-length-2 Inv-loop μ-loop
-same-length-2 c = draining-lengths (c .before .before .loop .inv) (c .before .before .before .before .before .pre .1) .1
+same-length-2 c =
+    let at-loop : tie.At-loop Inv-loop μ-loop = search depth 0 in
+    let start : tie.Start Inv-loop μ-loop = search depth 0 in
+    draining-lengths (at-loop .loop .inv) (start .pre .1) .1
 
 returns : tie.Need-returns Inv-loop μ-loop
-returns c = draining-none (c .before .before .loop .inv) (c .if1 .left)
+returns c =
+    let at-loop : tie.At-loop Inv-loop μ-loop = search depth 0 in
+    draining-none (at-loop .loop .inv) (c .if1 .left)
 
 pub drain-spec : {M : Type 1} → statement M
 drain-spec =

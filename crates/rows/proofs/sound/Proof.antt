@@ -24,30 +24,50 @@ add-place : tie.Need-add-place Inv-loop μ-loop
 add-place c = omega arith
 
 place-requires : tie.Need-place-requires Inv-loop μ-loop
-place-requires c κs = (c .before .before .before .pre .0, omega arith)
+place-requires c κs =
+    let start : tie.Start Inv-loop μ-loop = search depth 0 in
+    (start .pre .0, omega arith)
 
 at-requires : tie.Need-at-requires Inv-loop μ-loop
-at-requires c κs = omega (arith, c .place .ensures .1, c .before .before .before .before .pre .1)
+at-requires c κs =
+    let start : tie.Start Inv-loop μ-loop = search depth 0 in
+    omega (arith, c .place .ensures .1, start .pre .1)
 
 returns : tie.Need-returns Inv-loop μ-loop
 returns c =
-    let a = c .before .before .before .before .before .before .before .before .args in
-    let f = faulted (a .ts .0) (a .q) (a .row .now) (c .before .before .before .before .before .before .loop .n - 1) (c .before .before .before .before .place .ensures .0) (c .before .before .before .at .ensures) (c .before .before .wide .ensures .0) (c .before .unfit .ensures) in
-    sym (c .before .before .before .before .before .before .loop .inv .1 ∙ sound-stops (a .ts .0) (a .q) (a .row .now) (c .before .before .before .before .before .before .loop .n) (omega (arith, c .before .before .before .before .before .loop-test .taken)) (λ z. c .if1 .taken (f ∙ z)))
+    let after-unfit : tie.After-unfit Inv-loop μ-loop = search depth 0 in
+    let after-wide : tie.After-wide Inv-loop μ-loop = search depth 0 in
+    let after-at : tie.After-at Inv-loop μ-loop = search depth 0 in
+    let after-place : tie.After-place Inv-loop μ-loop = search depth 0 in
+    let in-loop : tie.In-loop Inv-loop μ-loop = search depth 0 in
+    let at-loop : tie.At-loop Inv-loop μ-loop = search depth 0 in
+    let start : tie.Start Inv-loop μ-loop = search depth 0 in
+    let a = start .args in
+    let f = faulted (a .ts .0) (a .q) (a .row .now) (at-loop .loop .n - 1) (after-place .place .ensures .0) (after-at .at .ensures) (after-wide .wide .ensures .0) (after-unfit .unfit .ensures) in
+    sym (at-loop .loop .inv .1 ∙ sound-stops (a .ts .0) (a .q) (a .row .now) (at-loop .loop .n) (omega (arith, in-loop .loop-test .taken)) (λ z. c .if1 .taken (f ∙ z)))
 
 loop-less : tie.Need-loop-less Inv-loop μ-loop
 loop-less c = omega arith
 
 loop-again : tie.Need-loop-again Inv-loop μ-loop
 loop-again c =
-    let a = c .before .before .before .before .before .before .before .before .args in
-    let f = faulted (a .ts .0) (a .q) (a .row .now) (c .before .before .before .before .before .before .loop .n - 1) (c .before .before .before .before .place .ensures .0) (c .before .before .before .at .ensures) (c .before .before .wide .ensures .0) (c .before .unfit .ensures) in
-    (omega (arith, c .before .before .before .before .before .before .loop .inv .0), c .before .before .before .before .before .before .loop .inv .1 ∙ sound-one (a .ts .0) (a .q) (a .row .now) (c .before .before .before .before .before .before .loop .n) (omega (arith, c .before .before .before .before .before .loop-test .taken)) (sym f ∙ c .if1 .left))
+    let after-unfit : tie.After-unfit Inv-loop μ-loop = search depth 0 in
+    let after-wide : tie.After-wide Inv-loop μ-loop = search depth 0 in
+    let after-at : tie.After-at Inv-loop μ-loop = search depth 0 in
+    let after-place : tie.After-place Inv-loop μ-loop = search depth 0 in
+    let in-loop : tie.In-loop Inv-loop μ-loop = search depth 0 in
+    let at-loop : tie.At-loop Inv-loop μ-loop = search depth 0 in
+    let start : tie.Start Inv-loop μ-loop = search depth 0 in
+    let a = start .args in
+    let f = faulted (a .ts .0) (a .q) (a .row .now) (at-loop .loop .n - 1) (after-place .place .ensures .0) (after-at .at .ensures) (after-wide .wide .ensures .0) (after-unfit .unfit .ensures) in
+    (omega (arith, at-loop .loop .inv .0), at-loop .loop .inv .1 ∙ sound-one (a .ts .0) (a .q) (a .row .now) (at-loop .loop .n) (omega (arith, in-loop .loop-test .taken)) (sym f ∙ c .if1 .left))
 
 returns-2 : tie.Need-returns-2 Inv-loop μ-loop
 returns-2 c =
-    let a = c .before .before .before .args in
-    sym (c .before .loop .inv .1 ∙ sound-none (a .ts .0) (a .q) (a .row .now) (c .before .loop .n) (c .loop-test .left))
+    let at-loop : tie.At-loop Inv-loop μ-loop = search depth 0 in
+    let start : tie.Start Inv-loop μ-loop = search depth 0 in
+    let a = start .args in
+    sym (at-loop .loop .inv .1 ∙ sound-none (a .ts .0) (a .q) (a .row .now) (at-loop .loop .n) (c .loop-test .left))
 
 pub sound-spec : {M : Type 1} → statement M
 sound-spec =

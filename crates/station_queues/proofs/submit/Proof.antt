@@ -6,11 +6,16 @@ use Rattle.station_queues.proofs.submit.Statement.{statement}
 use Rattle.station_queues.proofs.submit.Tie as tie
 
 returns : tie.Need-returns
-returns c = submit-refused _ _ _ _ _ _ (c .before .before .before .before .before .before .before .taking .ensures) (c .if1 .taken)
+returns c =
+    let after-taking : tie.After-taking = search depth 0 in
+    submit-refused _ _ _ _ _ _ (after-taking .taking .ensures) (c .if1 .taken)
 
 returns-2 : tie.Need-returns-2
 unfolding stateWith
-returns-2 c = submit-taken _ _ _ _ _ _ (c .before .before .before .before .before .before .before .before .taking .ensures) (c .before .if1 .left) (c .with-queue .ensures)
+returns-2 c =
+    let else1 : tie.Else1 = search depth 0 in
+    let after-taking : tie.After-taking = search depth 0 in
+    submit-taken _ _ _ _ _ _ (after-taking .taking .ensures) (else1 .if1 .left) (c .with-queue .ensures)
 
 pub submit-spec : {M : Type 1} → statement M
 submit-spec =

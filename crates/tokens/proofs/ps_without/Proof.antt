@@ -8,7 +8,9 @@ use Rattle.tokens.proofs.ps_without.Tie as tie
 
 returns : tie.Need-returns
 unfolding psWithout
-returns c = if-same _ (c .before .if1 .taken) (c .previous .ensures .0)
+returns c =
+    let then1 : tie.Then1 = search depth 0 in
+    if-same _ (then1 .if1 .taken) (c .previous .ensures .0)
 
 returns-2 : tie.Need-returns-2
 unfolding psWithout

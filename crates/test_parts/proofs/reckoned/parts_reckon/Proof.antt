@@ -9,15 +9,24 @@ use Rattle.test_parts.proofs.reckoned.parts_reckon.Tie as tie
 
 flat-times-requires : tie.Need-flat-times-requires
 flat-times-requires c κs =
-    reckon-small _ (c .before .before .before .before .args .ts) _ (sym (c .before .t .given .1) ∙ c .before .before .before .reckon .ensures)
+    let after-t : tie.After-t = search depth 0 in
+    let after-reckon : tie.After-reckon = search depth 0 in
+    let start : tie.Start = search depth 0 in
+    reckon-small _ (start .args .ts) _ (sym (after-t .t .given .1) ∙ after-reckon .reckon .ensures)
 
 returns : tie.Need-returns
 unfolding reckons
-returns c = rw (← c .before .before .before .before .reckon .ensures, c .before .before .n .given .1) (c .flat-refused .ensures)
+returns c =
+    let after-n : tie.After-n = search depth 0 in
+    let after-reckon : tie.After-reckon = search depth 0 in
+    rw (← after-reckon .reckon .ensures, after-n .n .given .1) (c .flat-refused .ensures)
 
 returns-2 : tie.Need-returns-2
 unfolding reckons
-returns-2 c = rw (← c .before .before .before .before .reckon .ensures, c .before .before .t .given .1) (c .flat-times .ensures)
+returns-2 c =
+    let after-t : tie.After-t = search depth 0 in
+    let after-reckon : tie.After-reckon = search depth 0 in
+    rw (← after-reckon .reckon .ensures, after-t .t .given .1) (c .flat-times .ensures)
 
 pub parts-reckon-spec : {M : Type 1} → statement M
 parts-reckon-spec =

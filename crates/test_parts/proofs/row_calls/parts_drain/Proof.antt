@@ -9,18 +9,27 @@ use Rattle.test_parts.proofs.row_calls.parts_drain.Tie as tie
 
 returns : tie.Need-returns
 unfolding drains
-returns c = unless-same _ (λ z. c .before .if1 .taken (c .before .before .unlent .ensures ∙ z)) (cc)
+returns c =
+    let then1 : tie.Then1 = search depth 0 in
+    let after-unlent : tie.After-unlent = search depth 0 in
+    unless-same _ (λ z. then1 .if1 .taken (after-unlent .unlent .ensures ∙ z)) (cc)
 
 drain-requires : tie.Need-drain-requires
 drain-requires c κs =
-    let a = c .before .before .before .before .before .before .args in
-    unlent-none _ (a .row .now) (a .area .now) (sym (c .before .before .before .unlent .ensures) ∙ c .before .before .if1 .left)
+    let else1 : tie.Else1 = search depth 0 in
+    let after-unlent : tie.After-unlent = search depth 0 in
+    let start : tie.Start = search depth 0 in
+    let a = start .args in
+    unlent-none _ (a .row .now) (a .area .now) (sym (after-unlent .unlent .ensures) ∙ else1 .if1 .left)
 
 returns-2 : tie.Need-returns-2
 unfolding drains flatConfirmed
 returns-2 c =
-    if-same _ (sym (c .before .before .before .before .before .before .before .before .before .unlent .ensures) ∙ c .before .before .before .before .before .before .before .before .if1 .left)
-    (rw (← c .before .before .before .before .before .drain .ensures, c .flat-queue2 .ensures) refl)
+    let after-drain : tie.After-drain = search depth 0 in
+    let else1 : tie.Else1 = search depth 0 in
+    let after-unlent : tie.After-unlent = search depth 0 in
+    if-same _ (sym (after-unlent .unlent .ensures) ∙ else1 .if1 .left)
+    (rw (← after-drain .drain .ensures, c .flat-queue2 .ensures) refl)
 
 pub parts-drain-spec : {M : Type 1} → statement M
 parts-drain-spec =

@@ -9,25 +9,35 @@ use Rattle.test_parts.proofs.row_calls.parts_sound.Tie as tie
 
 returns : tie.Need-returns
 unfolding sounds
-returns c = unless-same _ (λ z. c .if1 .taken (c .before .unlent .ensures ∙ z)) (c .before .unlent .ensures)
+returns c =
+    let after-unlent : tie.After-unlent = search depth 0 in
+    unless-same _ (λ z. c .if1 .taken (after-unlent .unlent .ensures ∙ z)) (after-unlent .unlent .ensures)
 
 sound-requires : tie.Need-sound-requires
 sound-requires c κs =
-    let a = c .before .before .before .before .args in
-    let l = unlent-none _ (a .row .now) (a .area .now) (sym (c .before .unlent .ensures) ∙ c .if1 .left) in
+    let after-unlent : tie.After-unlent = search depth 0 in
+    let start : tie.Start = search depth 0 in
+    let a = start .args in
+    let l = unlent-none _ (a .row .now) (a .area .now) (sym (after-unlent .unlent .ensures) ∙ c .if1 .left) in
     (l .0, l .1 .places)
 
 returns-2 : tie.Need-returns-2
 unfolding sounds
 returns-2 c =
-    if-same _ (sym (c .before .before .before .unlent .ensures) ∙ c .before .before .if1 .left)
-    (asked-true _ (c .before .sound .ensures) (c .if2 .taken) refl)
+    let after-sound : tie.After-sound = search depth 0 in
+    let else1 : tie.Else1 = search depth 0 in
+    let after-unlent : tie.After-unlent = search depth 0 in
+    if-same _ (sym (after-unlent .unlent .ensures) ∙ else1 .if1 .left)
+    (asked-true _ (after-sound .sound .ensures) (c .if2 .taken) refl)
 
 returns-3 : tie.Need-returns-3
 unfolding sounds
 returns-3 c =
-    if-same _ (sym (c .before .before .before .unlent .ensures) ∙ c .before .before .if1 .left)
-    (asked-false _ (c .before .sound .ensures) (c .if2 .left) refl)
+    let after-sound : tie.After-sound = search depth 0 in
+    let else1 : tie.Else1 = search depth 0 in
+    let after-unlent : tie.After-unlent = search depth 0 in
+    if-same _ (sym (after-unlent .unlent .ensures) ∙ else1 .if1 .left)
+    (asked-false _ (after-sound .sound .ensures) (c .if2 .left) refl)
 
 pub parts-sound-spec : {M : Type 1} → statement M
 parts-sound-spec = tie.close (tie.spec (λ c κs. search needs) returns sound-requires returns-2 returns-3)
