@@ -6,13 +6,14 @@ ghost use Rattle.state.specs.World.{rows, worldOf};
 ghost use Rattle.state.specs.Calls.{start as Calls·start, reset as Calls·reset, submit as Calls·submit};
 ghost use Rattle.state.specs.Calls.{collect as Calls·collect};
 ghost use Rattle.state.specs.Told.{lent, startedOf, resetOf};
-ghost use Rattle.c_core.specs.Handover.{settingsFrom, stateIn, filled, starting, held, resetting, lodged, submitting};
-ghost use Rattle.c_core.specs.Handover.{collecting};
+ghost use Rattle.c_core.specs.Handover.{stateIn, filled, starting, held, resetting, lodged, submitting, collecting};
+ghost use Rattle.c_core.specs.Numbers.{settingsIn};
 use c_core::handover;
 use c_core::handover::FlatAccepted;
 use c_core::handover::FlatCollected;
 use c_core::handover::FlatRenewed;
-use c_core::handover::FlatSettings;
+use c_core::numbers;
+use c_core::numbers::FlatSettings;
 use c_core::numbers::Numbers;
 use frame::Address;
 use request::Record;
@@ -35,11 +36,11 @@ pub fn start(
     ensures { λ r. ⌜ filled r (now (masters .entry)) (now (started .exit)) (now (marks .exit)) (now (points .entry))
         (now (memory .exit))
         ≡ starting
-        (startedOf (Calls·start (settingsFrom settings) ts (now (masters .entry)) (now (points .entry)) high low))
+        (startedOf (Calls·start (settingsIn settings) ts (now (masters .entry)) (now (points .entry)) high low))
         (now (masters .entry)) (now (started .entry)) (now (marks .entry)) (now (points .entry))
         (now (memory .entry)) ⌝ }
 {
-    let s = handover::settings_from(settings);
+    let s = numbers::settings_in(settings);
     let a = station::start(
         s,
         Address(ts),

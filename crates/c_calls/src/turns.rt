@@ -5,7 +5,7 @@ ghost use lib.ListN.{length};
 ghost use Rattle.state.specs.World.{rows};
 ghost use Rattle.state.specs.Calls.{frame as Calls·frame, sent as Calls·sent, slot as Calls·slot};
 ghost use Rattle.state.specs.Told.{standing, worldIn};
-ghost use Rattle.c_core.specs.Board.{coreIn, keptIn};
+ghost use Rattle.c_core.specs.Numbers.{coreIn, keptIn};
 ghost use Rattle.c_core.specs.Handover.{roomOf, held, holding};
 use c_core::handover;
 use c_core::handover::FlatAnswer;

@@ -5,7 +5,6 @@ use Prim.Native.Nat.{ℕ}
 use mathlib.Core.Bool.{Bool, true, false}
 use mathlib.Core.List.{List}
 use Rattle.choice.specs.Choice.{pick, same}
-use Rattle.times.specs.declared.Settings.{Settings}
 use Rattle.request.specs.declared.Record.{Record}
 use Rattle.request.specs.Record.{WAITING}
 use Rattle.state.specs.declared.Priority.{Priority}
@@ -19,27 +18,14 @@ use Rattle.state.specs.declared.Heard.{Heard}
 use Rattle.state.specs.World.{Rows, Called, rowsOf}
 use Rattle.state.specs.Told.{Leaves, Stands, acceptedOf, handedBackOf}
 use Rattle.c_core.specs.declared.numbers.Numbers.{Numbers}
-use Rattle.c_core.specs.Board.{coreIn, keptIn, numbersOf, indicationOf}
-use Rattle.c_core.specs.declared.handover.FlatSettings.{FlatSettings}
+use Rattle.c_core.specs.Numbers.{coreIn, keptIn, numbersOf, indicationOf}
 use Rattle.c_core.specs.declared.handover.FlatAccepted.{FlatAccepted}
 use Rattle.c_core.specs.declared.handover.FlatCollected.{FlatCollected}
 use Rattle.c_core.specs.declared.handover.FlatRenewed.{FlatRenewed}
 use Rattle.c_core.specs.declared.handover.FlatAnswer.{FlatAnswer}
 
 -- ---- what a call takes
--- the settings, the state, the request and the room that numbers mean
-unfoldable pub settingsFrom : FlatSettings → Settings
-settingsFrom s =
-    record {
-      tset = record { 0 = s .tset };
-      tqui = record { 0 = s .tqui };
-      mintsdr = record { 0 = s .mintsdr };
-      maxtsdr = record { 0 = s .maxtsdr };
-      ttd = record { 0 = s .ttd };
-      ttr = record { 0 = s .ttr };
-      retries = record { 0 = s .retries };
-    }
-
+-- the state, the request and the room that numbers mean
 unfoldable pub stateIn : Numbers → List ℕ → List ℕ → List ℕ → List ℕ → List ℕ → State
 stateIn n masters started marks points octets =
     record {

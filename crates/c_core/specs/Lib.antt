@@ -1,2 +1,2 @@
-pub mod Board
 pub mod Handover
+pub mod Numbers

@@ -1,12 +1,11 @@
 // What a station's calls take and hand over at the C boundary: a state from numbers and lent arrays, and each answer as a
 // struct of numbers. Where a call is refused, the core handed over is the one it was given. Assumes nothing.
 ghost use mathlib.Core.Path.{_≡_};
-ghost use Rattle.c_core.specs.Handover.{settingsFrom, stateIn, requestFrom, roomOf, numbersAfter, flatAccepted};
+ghost use Rattle.c_core.specs.Handover.{stateIn, requestFrom, roomOf, numbersAfter, flatAccepted};
 ghost use Rattle.c_core.specs.Handover.{flatCollected, flatRenewed, flatStarted, flatAnswer};
 use super::numbers;
 use super::numbers::FlatIndication;
 use super::numbers::Numbers;
-use clock::BitTime;
 use frame::Address;
 use frame::Point;
 use request::Record;
@@ -21,20 +20,6 @@ use state::Memory;
 use state::Points;
 use state::Renewed;
 use state::State;
-use times::Count;
-use times::Settings;
-
-// A station's settings.
-#[repr(C)]
-pub struct FlatSettings {
-    pub tset: u32,
-    pub tqui: u32,
-    pub mintsdr: u32,
-    pub maxtsdr: u32,
-    pub ttd: u32,
-    pub ttr: u32,
-    pub retries: u32,
-}
 
 // What submit answers: the refusal or 0, and the place taken.
 #[repr(C)]
@@ -74,21 +59,6 @@ pub struct FlatAnswer {
     pub length: usize,
     pub indication: FlatIndication,
     pub core: Numbers,
-}
-
-// The settings that numbers mean.
-pub fn settings_from(s: FlatSettings) -> Settings
-    ensures { λ r. ⌜ r ≡ settingsFrom s ⌝ }
-{
-    Settings {
-        tset: BitTime(s.tset),
-        tqui: BitTime(s.tqui),
-        mintsdr: BitTime(s.mintsdr),
-        maxtsdr: BitTime(s.maxtsdr),
-        ttd: BitTime(s.ttd),
-        ttr: BitTime(s.ttr),
-        retries: Count(s.retries),
-    }
 }
 
 // The state that numbers and lent arrays mean.

@@ -1,9 +1,9 @@
 // What the C boundary holds of a station: numbers for the core and for what the memory keeps, and for an indication. Every
 // number is taken; where one stands for no case, the station has TS 127, which every call refuses. Assumes nothing.
 ghost use mathlib.Core.Path.{_≡_};
-ghost use Rattle.c_core.specs.Board.{phaseNumber, phaseOf, servedNumber, servedOf, flagNumber, flagOf};
-ghost use Rattle.c_core.specs.Board.{malformed as Board·malformed, tsIn, settingsIn, doingIn, holdIn, highIn};
-ghost use Rattle.c_core.specs.Board.{lowIn, coreIn, keptIn, numbersOf, indicationOf};
+ghost use Rattle.c_core.specs.Numbers.{phaseNumber, phaseOf, servedNumber, servedOf, flagNumber, flagOf};
+ghost use Rattle.c_core.specs.Numbers.{malformed as Numbers·malformed, tsIn, settingsIn, settingsOf, doingIn};
+ghost use Rattle.c_core.specs.Numbers.{holdIn, highIn, lowIn, coreIn, keptIn, numbersOf, indicationOf};
 use clock::BitTime;
 use frame::Address;
 use frame::Head;
@@ -19,10 +19,9 @@ use state::Priority;
 use times::Count;
 use times::Settings;
 
-// The core of a station and what its memory keeps, as numbers. Phase is 0 Idle, 1 Reply awaited, 2 SDN going out, 3 Pass
-// checked, 4 Pass to self; served is 0 for the high queue, 1 for the low; sdn and bit are 0 or 1.
+// A station's settings.
 #[repr(C)]
-pub struct Numbers {
+pub struct FlatSettings {
     pub tset: u32,
     pub tqui: u32,
     pub mintsdr: u32,
@@ -30,6 +29,13 @@ pub struct Numbers {
     pub ttd: u32,
     pub ttr: u32,
     pub retries: u32,
+}
+
+// The core of a station and what its memory keeps, as numbers. Phase is 0 Idle, 1 Reply awaited, 2 SDN going out, 3 Pass
+// checked, 4 Pass to self; served is 0 for the high queue, 1 for the low; sdn and bit are 0 or 1.
+#[repr(C)]
+pub struct Numbers {
+    pub settings: FlatSettings,
     pub acceptance: u32,
     pub before: u32,
     pub ts: u8,
@@ -134,7 +140,7 @@ fn flag_of(n: u8) -> bool
 
 // Whether a number stands for no case.
 fn malformed(phase: u8, served: u8, sdn: u8, bit: u8) -> bool
-    ensures { λ r. ⌜ r ≡ Board·malformed phase served sdn bit ⌝ }
+    ensures { λ r. ⌜ r ≡ Numbers·malformed phase served sdn bit ⌝ }
 {
     if 4 < phase {
         return true;
@@ -161,17 +167,33 @@ fn ts_in(n: Numbers) -> Address
     Address(ts)
 }
 
-fn settings_in(n: Numbers) -> Settings
-    ensures { λ r. ⌜ r ≡ settingsIn n ⌝ }
+// The settings that numbers mean.
+pub fn settings_in(s: FlatSettings) -> Settings
+    ensures { λ r. ⌜ r ≡ settingsIn s ⌝ }
 {
     Settings {
-        tset: BitTime(n.tset),
-        tqui: BitTime(n.tqui),
-        mintsdr: BitTime(n.mintsdr),
-        maxtsdr: BitTime(n.maxtsdr),
-        ttd: BitTime(n.ttd),
-        ttr: BitTime(n.ttr),
-        retries: Count(n.retries),
+        tset: BitTime(s.tset),
+        tqui: BitTime(s.tqui),
+        mintsdr: BitTime(s.mintsdr),
+        maxtsdr: BitTime(s.maxtsdr),
+        ttd: BitTime(s.ttd),
+        ttr: BitTime(s.ttr),
+        retries: Count(s.retries),
+    }
+}
+
+// The numbers of settings.
+fn settings_of(s: Settings) -> FlatSettings
+    ensures { λ r. ⌜ r ≡ settingsOf s ⌝ }
+{
+    FlatSettings {
+        tset: s.tset.0,
+        tqui: s.tqui.0,
+        mintsdr: s.mintsdr.0,
+        maxtsdr: s.maxtsdr.0,
+        ttd: s.ttd.0,
+        ttr: s.ttr.0,
+        retries: s.retries.0,
     }
 }
 
@@ -223,7 +245,7 @@ pub fn core_in(n: Numbers) -> Core
     ensures { λ r. ⌜ r ≡ coreIn n ⌝ }
 {
     Core {
-        settings: settings_in(n),
+        settings: settings_in(n.settings),
         ts: ts_in(n),
         ps: Address(n.ps),
         stranger: Address(n.stranger),
@@ -249,7 +271,6 @@ pub fn kept_in(n: Numbers) -> Kept
 pub fn numbers_of(c: Core, k: Kept) -> Numbers
     ensures { λ r. ⌜ r ≡ numbersOf c k ⌝ }
 {
-    let settings = c.settings;
     let hold = c.hold;
     let doing = c.doing;
     let phase = doing.phase;
@@ -257,13 +278,7 @@ pub fn numbers_of(c: Core, k: Kept) -> Numbers
     let high = c.high;
     let low = c.low;
     Numbers {
-        tset: settings.tset.0,
-        tqui: settings.tqui.0,
-        mintsdr: settings.mintsdr.0,
-        maxtsdr: settings.maxtsdr.0,
-        ttd: settings.ttd.0,
-        ttr: settings.ttr.0,
-        retries: settings.retries.0,
+        settings: settings_of(c.settings),
         acceptance: hold.acceptance.0,
         before: hold.before.0,
         ts: c.ts.0,

@@ -10,9 +10,9 @@ ghost use Rattle.state.specs.Calls.{start as Calls·start, reset as Calls·rese
 ghost use Rattle.state.specs.Calls.{collect as Calls·collect, frame as Calls·frame, sent as Calls·sent};
 ghost use Rattle.state.specs.Calls.{slot as Calls·slot};
 ghost use Rattle.state.specs.Told.{lent, worldIn, startedOf, resetOf, standing};
-ghost use Rattle.c_core.specs.Board.{coreIn, keptIn};
-ghost use Rattle.c_core.specs.Handover.{settingsFrom, stateIn, requestFrom, roomOf, holding, filled, starting, held};
-ghost use Rattle.c_core.specs.Handover.{resetting, lodged, submitting, collecting};
+ghost use Rattle.c_core.specs.Numbers.{settingsIn, coreIn, keptIn};
+ghost use Rattle.c_core.specs.Handover.{stateIn, requestFrom, roomOf, holding, filled, starting, held, resetting};
+ghost use Rattle.c_core.specs.Handover.{lodged, submitting, collecting};
 ghost use Rattle.capture.specs.Listing.{listed, left as Listing·left};
 ghost use Rattle.c_frames.specs.Flat.{tokenFrom, flat as Flat·flat, flatWritten, writes, leaves};
 use c_calls::queues;
@@ -22,7 +22,7 @@ use c_core::handover::FlatAccepted;
 use c_core::handover::FlatAnswer;
 use c_core::handover::FlatCollected;
 use c_core::handover::FlatRenewed;
-use c_core::handover::FlatSettings;
+use c_core::numbers::FlatSettings;
 use c_core::numbers::Numbers;
 use c_frames::FlatFrame;
 use c_frames::FlatWritten;
@@ -99,7 +99,7 @@ pub extern "C" fn cihlomet_start(
     ensures { λ r. ⌜ filled r (now (masters .entry)) (now (started .exit)) (now (marks .exit)) (now (points .entry))
         (now (memory .exit))
         ≡ starting
-        (startedOf (Calls·start (settingsFrom settings) ts (now (masters .entry)) (now (points .entry)) high low))
+        (startedOf (Calls·start (settingsIn settings) ts (now (masters .entry)) (now (points .entry)) high low))
         (now (masters .entry)) (now (started .entry)) (now (marks .entry)) (now (points .entry))
         (now (memory .entry)) ⌝ }
 {

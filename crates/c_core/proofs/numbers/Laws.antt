@@ -17,8 +17,9 @@ use Rattle.state.specs.declared.Core.{Core}
 use Rattle.state.specs.declared.Kept.{Kept}
 use Rattle.state.specs.Refusals.{unstartable, unstarted, lawless}
 use Rattle.c_core.specs.declared.numbers.Numbers.{Numbers}
-use Rattle.c_core.specs.Board.{phaseNumber, phaseOf, servedNumber, servedOf, flagNumber, flagOf, malformed}
-use Rattle.c_core.specs.Board.{tsIn, settingsIn, doingIn, holdIn, highIn, lowIn, coreIn, keptIn, numbersOf}
+use Rattle.c_core.specs.Numbers.{phaseNumber, phaseOf, servedNumber, servedOf, flagNumber, flagOf, malformed}
+use Rattle.c_core.specs.Numbers.{tsIn, settingsIn, settingsOf, doingIn, holdIn, highIn, lowIn, coreIn}
+use Rattle.c_core.specs.Numbers.{keptIn, numbersOf}
 
 -- ---- each case comes back from its number
 phase-back : (p : Phase) → phaseOf (phaseNumber p) ≡ p
@@ -65,7 +66,7 @@ well-formed p s x b = rw (phase-below p, served-below s, flag-below x, flag-belo
 
 -- ---- the core and what the memory keeps come back
 pub core-back : (c : Core) (k : Kept) → coreIn (numbersOf c k) ≡ c
-unfolding coreIn settingsIn tsIn doingIn holdIn highIn lowIn numbersOf said pick
+unfolding coreIn settingsIn settingsOf tsIn doingIn holdIn highIn lowIn numbersOf said pick
 core-back c k =
     rw
     (well-formed (c .doing .phase) (c .doing .served) (c .doing .sdn) (k .bit), phase-back (c .doing .phase), served-back (c .doing .served), flag-back (c .doing .sdn))
@@ -85,10 +86,10 @@ either true e = refl
 either false e = e
 
 unstartable-127 : (n : Numbers) (masters : List ℕ) → tsIn n .0 ≡ 127
-    → unstartable (settingsIn n) (tsIn n .0) masters ≡ true
+    → unstartable (settingsIn (n .settings)) (tsIn n .0) masters ≡ true
 unfolding unstartable
 unstartable-127 n masters e =
-    either (said (unruly (settingsIn n))) (pick-true _ _ (rw e (less-true (omega arith))))
+    either (said (unruly (settingsIn (n .settings)))) (pick-true _ _ (rw e (less-true (omega arith))))
 
 pub malformed-lawless : (n : Numbers) (masters started : List ℕ)
     → malformed (n .phase) (n .served) (n .sdn) (n .bit) ≡ true → lawless (coreIn n) masters started (keptIn n) ≡ true

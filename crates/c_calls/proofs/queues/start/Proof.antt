@@ -7,11 +7,19 @@ use Rattle.c_calls.proofs.queues.start.Tie as tie
 
 returns : tie.Need-returns
 returns c =
-    start-refused _ _ _ _ _ _ _ _ _ (rw (← c .before .before .before .before .before .before .before .before .before .settings-from .ensures) (c .before .before .before .before .before .before .start .ensures)) (c .started .ensures) (c .before .if1 .taken)
+    let settings : tie.After-settings-in = search depth 0 in
+    let start : tie.After-start = search depth 0 in
+    let then1 : tie.Then1 = search depth 0 in
+    start-refused _ _ _ _ _ _ _ _ _ (rw (← settings .settings-in .ensures) (start .start .ensures)) (c .started .ensures)
+    (then1 .if1 .taken)
 
 returns-2 : tie.Need-returns-2
 returns-2 c =
-    start-filled _ _ _ _ _ _ _ _ _ (rw (← c .before .before .before .before .before .before .before .before .before .settings-from .ensures) (c .before .before .before .before .before .before .start .ensures)) (c .started2 .ensures) (c .before .if1 .left)
+    let settings : tie.After-settings-in = search depth 0 in
+    let start : tie.After-start = search depth 0 in
+    let else1 : tie.Else1 = search depth 0 in
+    start-filled _ _ _ _ _ _ _ _ _ (rw (← settings .settings-in .ensures) (start .start .ensures)) (c .started2 .ensures)
+    (else1 .if1 .left)
 
 pub start-spec : {M : Type 1} → statement M
 start-spec =

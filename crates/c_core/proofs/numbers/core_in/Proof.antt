@@ -1,5 +1,5 @@
 -- `c_core::numbers::core_in` meets its contract: part by part. Assumes nothing.
-use Rattle.c_core.specs.Board.{coreIn}
+use Rattle.c_core.specs.Numbers.{coreIn}
 use borrow.Author.Needs.{needs}
 use Rattle.c_core.proofs.numbers.core_in.Statement.{statement}
 use Rattle.c_core.proofs.numbers.core_in.Tie as tie

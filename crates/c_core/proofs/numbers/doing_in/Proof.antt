@@ -1,5 +1,5 @@
 -- `c_core::numbers::doing_in` meets its contract: each case by its number. Assumes nothing.
-use Rattle.c_core.specs.Board.{doingIn}
+use Rattle.c_core.specs.Numbers.{doingIn}
 use borrow.Author.Needs.{needs}
 use Rattle.c_core.proofs.numbers.doing_in.Statement.{statement}
 use Rattle.c_core.proofs.numbers.doing_in.Tie as tie

@@ -1,6 +1,6 @@
 -- `c_core::numbers::flag_number` meets its contract: each return is one case. Assumes nothing.
 use Rattle.choice.proofs.Rules.{flags}
-use Rattle.c_core.specs.Board.{flagNumber}
+use Rattle.c_core.specs.Numbers.{flagNumber}
 use Rattle.c_core.proofs.numbers.flag_number.Statement.{statement}
 use Rattle.c_core.proofs.numbers.flag_number.Tie as tie
 

@@ -1,6 +1,6 @@
 -- `c_core::numbers::flag_of` meets its contract: each return is one case. Assumes nothing.
 use Rattle.choice.proofs.Rules.{picks}
-use Rattle.c_core.specs.Board.{flagOf}
+use Rattle.c_core.specs.Numbers.{flagOf}
 use Rattle.c_core.proofs.numbers.flag_of.Statement.{statement}
 use Rattle.c_core.proofs.numbers.flag_of.Tie as tie
 

@@ -1,6 +1,6 @@
 -- `c_core::numbers::high_in` meets its contract: number by number. Assumes nothing.
 use mathlib.Core.Path.{refl}
-use Rattle.c_core.specs.Board.{highIn}
+use Rattle.c_core.specs.Numbers.{highIn}
 use Rattle.c_core.proofs.numbers.high_in.Statement.{statement}
 use Rattle.c_core.proofs.numbers.high_in.Tie as tie
 

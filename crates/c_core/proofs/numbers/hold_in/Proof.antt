@@ -1,6 +1,6 @@
 -- `c_core::numbers::hold_in` meets its contract: number by number. Assumes nothing.
 use mathlib.Core.Path.{refl}
-use Rattle.c_core.specs.Board.{holdIn}
+use Rattle.c_core.specs.Numbers.{holdIn}
 use Rattle.c_core.proofs.numbers.hold_in.Statement.{statement}
 use Rattle.c_core.proofs.numbers.hold_in.Tie as tie
 

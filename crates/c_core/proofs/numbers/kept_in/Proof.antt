@@ -1,5 +1,5 @@
 -- `c_core::numbers::kept_in` meets its contract: number by number. Assumes nothing.
-use Rattle.c_core.specs.Board.{keptIn}
+use Rattle.c_core.specs.Numbers.{keptIn}
 use borrow.Author.Needs.{needs}
 use Rattle.c_core.proofs.numbers.kept_in.Statement.{statement}
 use Rattle.c_core.proofs.numbers.kept_in.Tie as tie

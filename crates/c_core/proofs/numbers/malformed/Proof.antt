@@ -1,6 +1,6 @@
 -- `c_core::numbers::malformed` meets its contract: each return is one case of the chain. Assumes nothing.
 use Rattle.choice.proofs.Rules.{picks}
-use Rattle.c_core.specs.Board.{malformed}
+use Rattle.c_core.specs.Numbers.{malformed}
 use Rattle.c_core.proofs.numbers.malformed.Statement.{statement}
 use Rattle.c_core.proofs.numbers.malformed.Tie as tie
 

@@ -1,5 +1,5 @@
 -- `c_core::numbers::numbers_of` meets its contract: number by number. Assumes nothing.
-use Rattle.c_core.specs.Board.{numbersOf}
+use Rattle.c_core.specs.Numbers.{numbersOf}
 use borrow.Author.Needs.{needs}
 use Rattle.c_core.proofs.numbers.numbers_of.Statement.{statement}
 use Rattle.c_core.proofs.numbers.numbers_of.Tie as tie
@@ -12,6 +12,7 @@ pub numbers-of-spec : {M : Type 1} → statement M
 numbers-of-spec =
     tie.close
     (tie.spec
+    (λ c κs. search needs)
     (λ c κs. search needs)
     (λ c κs. search needs)
     (λ c κs. search needs)

@@ -1,5 +1,5 @@
 -- `c_core::numbers::phase_number` meets its contract: the number of each case. Assumes nothing.
-use Rattle.c_core.specs.Board.{phaseNumber}
+use Rattle.c_core.specs.Numbers.{phaseNumber}
 use borrow.Author.Needs.{needs}
 use Rattle.c_core.proofs.numbers.phase_number.Statement.{statement}
 use Rattle.c_core.proofs.numbers.phase_number.Tie as tie

@@ -1,6 +1,6 @@
 -- `c_core::numbers::phase_of` meets its contract: each return is one case of the chain. Assumes nothing.
 use Rattle.choice.proofs.Rules.{picks}
-use Rattle.c_core.specs.Board.{phaseOf}
+use Rattle.c_core.specs.Numbers.{phaseOf}
 use Rattle.c_core.proofs.numbers.phase_of.Statement.{statement}
 use Rattle.c_core.proofs.numbers.phase_of.Tie as tie
 

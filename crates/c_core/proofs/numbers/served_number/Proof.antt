@@ -1,5 +1,5 @@
 -- `c_core::numbers::served_number` meets its contract: the number of each case. Assumes nothing.
-use Rattle.c_core.specs.Board.{servedNumber}
+use Rattle.c_core.specs.Numbers.{servedNumber}
 use borrow.Author.Needs.{needs}
 use Rattle.c_core.proofs.numbers.served_number.Statement.{statement}
 use Rattle.c_core.proofs.numbers.served_number.Tie as tie

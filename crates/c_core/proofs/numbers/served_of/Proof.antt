@@ -1,6 +1,6 @@
 -- `c_core::numbers::served_of` meets its contract: each return is one case. Assumes nothing.
 use Rattle.choice.proofs.Rules.{picks}
-use Rattle.c_core.specs.Board.{servedOf}
+use Rattle.c_core.specs.Numbers.{servedOf}
 use Rattle.c_core.proofs.numbers.served_of.Statement.{statement}
 use Rattle.c_core.proofs.numbers.served_of.Tie as tie
 

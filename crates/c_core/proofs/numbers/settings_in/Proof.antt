@@ -1,6 +1,6 @@
 -- `c_core::numbers::settings_in` meets its contract: each setting by its number. Assumes nothing.
 use mathlib.Core.Path.{refl}
-use Rattle.c_core.specs.Board.{settingsIn}
+use Rattle.c_core.specs.Numbers.{settingsIn}
 use Rattle.c_core.proofs.numbers.settings_in.Statement.{statement}
 use Rattle.c_core.proofs.numbers.settings_in.Tie as tie
 

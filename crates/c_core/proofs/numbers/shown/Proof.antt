@@ -1,5 +1,5 @@
 -- `c_core::numbers::shown` meets its contract: field by field. Assumes nothing.
-use Rattle.c_core.specs.Board.{indicationOf}
+use Rattle.c_core.specs.Numbers.{indicationOf}
 use borrow.Author.Needs.{needs}
 use Rattle.c_core.proofs.numbers.shown.Statement.{statement}
 use Rattle.c_core.proofs.numbers.shown.Tie as tie

@@ -1,6 +1,6 @@
 -- `c_core::numbers::ts_in` meets its contract: TS 127 where a number stands for no case. Assumes nothing.
 use Rattle.choice.proofs.Rules.{picks, asked}
-use Rattle.c_core.specs.Board.{tsIn}
+use Rattle.c_core.specs.Numbers.{tsIn}
 use borrow.Author.Needs.{needs}
 use Rattle.c_core.proofs.numbers.ts_in.Statement.{statement}
 use Rattle.c_core.proofs.numbers.ts_in.Tie as tie

@@ -18,6 +18,7 @@ use Rattle.state.specs.declared.Kept.{Kept}
 use Rattle.state.specs.declared.Indication.{Indication}
 use Rattle.state.specs.declared.Indication.the-variants.{None, Shown}
 use Rattle.frame.specs.Access.{pointOf}
+use Rattle.c_core.specs.declared.numbers.FlatSettings.{FlatSettings}
 use Rattle.c_core.specs.declared.numbers.Numbers.{Numbers}
 use Rattle.c_core.specs.declared.numbers.FlatIndication.{FlatIndication}
 
@@ -54,18 +55,32 @@ malformed phase served sdn bit =
 unfoldable pub tsIn : Numbers → Address
 tsIn n = pick (said (malformed (n .phase) (n .served) (n .sdn) (n .bit))) (record { 0 = 127 }) (record { 0 = n .ts })
 
--- ---- the core and what the memory keeps, from numbers
-unfoldable pub settingsIn : Numbers → Settings
-settingsIn n =
+-- ---- settings from numbers, and the numbers of settings
+unfoldable pub settingsIn : FlatSettings → Settings
+settingsIn s =
     record {
-      tset = record { 0 = n .tset };
-      tqui = record { 0 = n .tqui };
-      mintsdr = record { 0 = n .mintsdr };
-      maxtsdr = record { 0 = n .maxtsdr };
-      ttd = record { 0 = n .ttd };
-      ttr = record { 0 = n .ttr };
-      retries = record { 0 = n .retries };
+      tset = record { 0 = s .tset };
+      tqui = record { 0 = s .tqui };
+      mintsdr = record { 0 = s .mintsdr };
+      maxtsdr = record { 0 = s .maxtsdr };
+      ttd = record { 0 = s .ttd };
+      ttr = record { 0 = s .ttr };
+      retries = record { 0 = s .retries };
     }
+
+unfoldable pub settingsOf : Settings → FlatSettings
+settingsOf s =
+    record {
+      tset = s .tset .0;
+      tqui = s .tqui .0;
+      mintsdr = s .mintsdr .0;
+      maxtsdr = s .maxtsdr .0;
+      ttd = s .ttd .0;
+      ttr = s .ttr .0;
+      retries = s .retries .0;
+    }
+
+-- ---- the core and what the memory keeps, from numbers
 
 unfoldable pub doingIn : Numbers → Doing
 doingIn n =
@@ -85,7 +100,7 @@ lowIn n =
 unfoldable pub coreIn : Numbers → Core
 coreIn n =
     record {
-      settings = settingsIn n;
+      settings = settingsIn (n .settings);
       ts = tsIn n;
       ps = record { 0 = n .ps };
       stranger = record { 0 = n .stranger };
@@ -102,13 +117,7 @@ keptIn n = record { source = record { 0 = n .source }; bit = flagOf (n .bit); le
 unfoldable pub numbersOf : Core → Kept → Numbers
 numbersOf c k =
     record {
-      tset = c .settings .tset .0;
-      tqui = c .settings .tqui .0;
-      mintsdr = c .settings .mintsdr .0;
-      maxtsdr = c .settings .maxtsdr .0;
-      ttd = c .settings .ttd .0;
-      ttr = c .settings .ttr .0;
-      retries = c .settings .retries .0;
+      settings = settingsOf (c .settings);
       acceptance = c .hold .acceptance .0;
       before = c .hold .before .0;
       ts = c .ts .0;
