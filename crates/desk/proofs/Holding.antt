@@ -14,9 +14,8 @@ use Rattle.laid.specs.Laid.{laid, Lays}
 use Rattle.laid.proofs.Laws.{laid-nil}
 use Rattle.request.specs.Record.{SIZE}
 use Rattle.queue.specs.Queue.{AREA}
-use Rattle.typed.specs.Places.{SHORT}
 use Rattle.typed_call.specs.declared.script.Call.{Call}
-use Rattle.typed_call.specs.Operands.{numberAt, settingsOf, tsOf, mastersOf, pointsOf}
+use Rattle.typed_call.specs.Operands.{settingsOf, tsOf, mastersOf, pointsOf, highOf, lowOf}
 use Rattle.times.specs.declared.Settings.{Settings}
 use Rattle.state.specs.declared.State.{State}
 use Rattle.state.specs.declared.Renewed.{Renewed}
@@ -58,22 +57,29 @@ pub data Begins (t : Started) (high low : ℕ) : Type 0 where
   refuses : (n : ℕ) → t ≡ Unstarted n → 0 < n → Begins t high low
   gives : (s : State) → t ≡ Station s → high ≤ 64 → low ≤ 64 → Begins t high low
 
-step : (b : Bool) (n : ℕ) {t : Started} {high low : ℕ} → 0 < n → (b ≡ false → Begins t high low) → Begins (pick b (Unstarted n) t) high low
+step : (b : Bool) (n : ℕ) {t : Started} {high low : ℕ} → 0 < n → (b ≡ false → Begins t high low)
+    → Begins (pick b (Unstarted n) t) high low
 unfolding pick
 step true n h f = refuses n refl h
 step false n h f = f refl
 
-pub begins : (t : Settings) (ts : ℕ) (masters points : List ℕ) (high low : ℕ) → Begins (start t ts masters points high low) high low
+pub begins : (t : Settings) (ts : ℕ) (masters points : List ℕ) (high low : ℕ)
+    → Begins (start t ts masters points high low) high low
 unfolding start
 begins t ts masters points high low =
-    step _ 20 (omega arith) (λ _. step _ 21 (omega arith) (λ _. step _ 21 (omega arith) (λ e. step _ 21 (omega arith) (λ _. step _ 21 (omega arith) (λ f. gives _ refl (false-less _ _ e) (false-less _ _ f))))))
+    step _ 20 (omega arith)
+    (λ _. step _ 21 (omega arith)
+    (λ _. step _ 21 (omega arith)
+    (λ e. step _ 21 (omega arith)
+    (λ _. step _ 21 (omega arith) (λ f. gives _ refl (false-less _ _ e) (false-less _ _ f))))))
 
 -- ---- what a call left, as the desk and what is printed
 -- the row of a queue after a call on the part of its array that is lent
 row-back : (n : ℕ) (l m : List ℕ) → length m ≡ n → take n (putMid 0 n l m) ≡ m
 row-back n l m e = take-at m _ n e
 
-lays-printed : (x : Plays) (text : List ℕ) {p : Played} {h l : Rows} {text′ : List ℕ} → leaves p h l text′ ≡ printing x text → length text ≡ 8192 → length text′ ≡ length text
+lays-printed : (x : Plays) (text : List ℕ) {p : Played} {h l : Rows} {text′ : List ℕ}
+    → leaves p h l text′ ≡ printing x text → length text ≡ 8192 → length text′ ≡ length text
     → Lays text 0 (x .line) 8192 (p .length) text′
 unfolding printing
 lays-printed x text {text′ = text′} e t k =
@@ -84,11 +90,22 @@ lays-printed x text {text′ = text′} e t k =
       near = omega (arith, t, laid-near text (x .line) text′ f k);
     }
 
-pub goes-on : (c : Call) (line : List ℕ) (h : Held) (high harea low larea text : List ℕ) {p : Played} {u ua v va text′ : List ℕ}
+pub goes-on : (c : Call) (line : List ℕ) (h : Held) (high harea low larea text : List ℕ) {p : Played}
+    {u ua v va text′ : List ℕ}
     → Arrays high harea low larea text → Few h → h .begun ≡ true
-    → leaves p (rows u ua) (rows v va) text′ ≡ printing (playedBy c line (h .state) (rows (take (SIZE * h .high) high) (take (AREA * h .high) harea)) (rows (take (SIZE * h .low) low) (take (AREA * h .low) larea))) text
-    → length u ≡ SIZE * h .high → length ua ≡ AREA * h .high → length v ≡ SIZE * h .low → length va ≡ AREA * h .low → length text′ ≡ length text
-    → Answers (answerOther c line (deskOf h high harea low larea)) text (record { held = record { begun = true; high = h .high; low = h .low; state = p .state }; length = p .length }) (putMid 0 (SIZE * h .high) high u) (putMid 0 (AREA * h .high) harea ua) (putMid 0 (SIZE * h .low) low v) (putMid 0 (AREA * h .low) larea va) text′
+    → leaves p (rows u ua) (rows v va) text′
+    ≡ printing
+    (playedBy c line (h .state) (rows (take (SIZE * h .high) high) (take (AREA * h .high) harea))
+    (rows (take (SIZE * h .low) low) (take (AREA * h .low) larea))) text
+    → length u ≡ SIZE * h .high → length ua ≡ AREA * h .high → length v ≡ SIZE * h .low → length va ≡ AREA * h .low
+    → length text′ ≡ length text
+    → Answers (answerOther c line (deskOf h high harea low larea)) text
+    (record {
+      held = record { begun = true; high = h .high; low = h .low; state = p .state };
+      length = p
+          .length;
+    }) (putMid 0 (SIZE * h .high) high u) (putMid 0 (AREA * h .high) harea ua)
+    (putMid 0 (SIZE * h .low) low v) (putMid 0 (AREA * h .low) larea va) text′
 unfolding answerOther started deskOf printing
 goes-on c line h high harea low larea text a f b e eu eua ev eva k =
     rw (b, pick-true)
@@ -101,7 +118,8 @@ goes-on c line h high harea low larea text a f b e eu eua ev eva k =
     })
 
 -- ---- a line that leaves the desk
-pub keeps : (a : List ℕ) (h : Held) (high harea low larea text : List ℕ) {n : ℕ} {text′ : List ℕ} → Few h → Lays text 0 a 8192 n text′
+pub keeps : (a : List ℕ) (h : Held) (high harea low larea text : List ℕ) {n : ℕ} {text′ : List ℕ} → Few h
+    → Lays text 0 a 8192 n text′
     → Answers (says a (deskOf h high harea low larea)) text (record { held = h; length = n }) high harea low larea text′
 keeps a h high harea low larea text f x = record { desk = refl; laid = x; few = f }
 
@@ -110,45 +128,73 @@ pub silent : (h : Held) (high harea low larea text : List ℕ) → Few h
 silent h high harea low larea text f =
     keeps [] h high harea low larea text f (record { place = refl; left = sym (laid-nil text 0); near = omega arith })
 
-pub unbegun : (c : Call) (line : List ℕ) (h : Held) (high harea low larea text : List ℕ) {n : ℕ} {text′ : List ℕ} → h .begun ≡ false → Few h → Lays text 0 unknownLine 8192 n text′
-    → Answers (answerOther c line (deskOf h high harea low larea)) text (record { held = h; length = n }) high harea low larea text′
+pub unbegun : (c : Call) (line : List ℕ) (h : Held) (high harea low larea text : List ℕ) {n : ℕ} {text′ : List ℕ}
+    → h .begun ≡ false → Few h → Lays text 0 unknownLine 8192 n text′
+    → Answers (answerOther c line (deskOf h high harea low larea)) text (record { held = h; length = n }) high
+    harea low larea text′
 unfolding answerOther deskOf
-unbegun c line h high harea low larea text b f x = rw (b, pick-false) (rw b at (keeps unknownLine h high harea low larea text f x))
+unbegun c line h high harea low larea text b f x =
+    rw (b, pick-false) (rw b at (keeps unknownLine h high harea low larea text f x))
 
 -- ---- a start
-start-begins : (line : List ℕ) → Begins (startBy line) (numberAt line 11 SHORT) (numberAt line 12 SHORT)
+start-begins : (line : List ℕ) → Begins (startBy line) (highOf line) (lowOf line)
 unfolding startBy
-start-begins line = begins (settingsOf line) (tsOf line) (mastersOf line) (pointsOf line) (numberAt line 11 SHORT) (numberAt line 12 SHORT)
+start-begins line = begins (settingsOf line) (tsOf line) (mastersOf line) (pointsOf line) (highOf line) (lowOf line)
 
-refused-by : (t : Started) (a b : ℕ) (h : Held) (high harea low larea text : List ℕ) {n : ℕ} {text′ : List ℕ} → Begins t a b → Few h
+refused-by : (t : Started) (a b : ℕ) (h : Held) (high harea low larea text : List ℕ) {n : ℕ} {text′ : List ℕ}
+    → Begins t a b → Few h
     → (startedOf t .refused ≡ 0 → ⊥) → Lays text 0 (plainLine (startedOf t .refused)) 8192 n text′
-    → Answers (starting t a b (deskOf h high harea low larea)) text (record { held = h; length = n }) high harea low larea text′
+    → Answers (starting t a b (deskOf h high harea low larea)) text (record { held = h; length = n }) high harea
+    low larea text′
 unfolding starting startedOf
-refused-by t a b h high harea low larea text (refuses k e p) f r x = rw e (keeps (plainLine k) h high harea low larea text f (rw e at x))
+refused-by t a b h high harea low larea text (refuses k e p) f r x =
+    rw e (keeps (plainLine k) h high harea low larea text f (rw e at x))
 refused-by t a b h high harea low larea text (gives s e u v) f r x = absurd (r (rw e refl))
 
-given-by : (t : Started) (a b : ℕ) (h : Held) (high harea low larea text : List ℕ) {n : ℕ} {text′ : List ℕ} → Begins t a b → Arrays high harea low larea text
+given-by : (t : Started) (a b : ℕ) (h : Held) (high harea low larea text : List ℕ) {n : ℕ} {text′ : List ℕ}
+    → Begins t a b → Arrays high harea low larea text
     → startedOf t .refused ≡ 0 → Lays text 0 (plainLine (startedOf t .refused)) 8192 n text′
-    → Answers (starting t a b (deskOf h high harea low larea)) text (record { held = record { begun = true; high = a; low = b; state = startedOf t .state }; length = n }) (zeros (length high)) (zeros (length harea)) (zeros (length low)) (zeros (length larea)) text′
+    → Answers (starting t a b (deskOf h high harea low larea)) text
+    (record { held = record { begun = true; high = a; low = b; state = startedOf t .state }; length = n })
+    (zeros (length high)) (zeros (length harea)) (zeros (length low)) (zeros (length larea)) text′
 unfolding starting startedOf deskOf cleared
 given-by t a b h high harea low larea text (refuses k e p) w r x = absurd (omega (arith, p, rw e at r))
 given-by t a b h high harea low larea text (gives s e u v) w r x =
     rw e
     (record {
       desk =
-          rw (w .high, w .harea, w .low, w .larea, take-zeros (SIZE * a) (SIZE * 64) (omega arith), take-zeros (AREA * a) (AREA * 64) (omega arith), take-zeros (SIZE * b) (SIZE * 64) (omega arith), take-zeros (AREA * b) (AREA * 64) (omega arith));
+          rw (
+            w .high,
+            w .harea,
+            w .low,
+            w .larea,
+            take-zeros (SIZE * a) (SIZE * 64) (omega arith),
+            take-zeros (AREA * a) (AREA * 64) (omega arith),
+            take-zeros (SIZE * b) (SIZE * 64) (omega arith),
+            take-zeros (AREA * b) (AREA * 64) (omega arith),
+          );
       laid = rw e at x;
       few = record { high = u; low = v };
     })
 
-pub begun-refused : (line : List ℕ) (h : Held) (high harea low larea text : List ℕ) {r : Renewed} {n : ℕ} {text′ : List ℕ} → Few h → r ≡ startedOf (startBy line)
+pub begun-refused : (line : List ℕ) (h : Held) (high harea low larea text : List ℕ) {r : Renewed} {n : ℕ}
+    {text′ : List ℕ}
+    → Few h → r ≡ startedOf (startBy line)
     → (r .refused ≡ 0 → ⊥) → Lays text 0 (plainLine (r .refused)) 8192 n text′
-    → Answers (starting (startBy line) (numberAt line 11 SHORT) (numberAt line 12 SHORT) (deskOf h high harea low larea)) text (record { held = h; length = n }) high harea low larea text′
+    → Answers (starting (startBy line) (highOf line) (lowOf line) (deskOf h high harea low larea)) text
+    (record { held = h; length = n }) high harea low larea text′
 begun-refused line h high harea low larea text f e r x =
     refused-by (startBy line) _ _ h high harea low larea text (start-begins line) f (rw e at r) (rw e at x)
 
-pub begun-given : (line : List ℕ) (h : Held) (high harea low larea text : List ℕ) {r : Renewed} {n : ℕ} {text′ : List ℕ} → Arrays high harea low larea text → r ≡ startedOf (startBy line)
+pub begun-given : (line : List ℕ) (h : Held) (high harea low larea text : List ℕ) {r : Renewed} {n : ℕ} {text′ : List ℕ}
+    → Arrays high harea low larea text → r ≡ startedOf (startBy line)
     → r .refused ≡ 0 → Lays text 0 (plainLine (r .refused)) 8192 n text′
-    → Answers (starting (startBy line) (numberAt line 11 SHORT) (numberAt line 12 SHORT) (deskOf h high harea low larea)) text (record { held = record { begun = true; high = numberAt line 11 SHORT; low = numberAt line 12 SHORT; state = r .state }; length = n }) (zeros (length high)) (zeros (length harea)) (zeros (length low)) (zeros (length larea)) text′
+    → Answers (starting (startBy line) (highOf line) (lowOf line) (deskOf h high harea low larea)) text
+    (record {
+      held = record { begun = true; high = highOf line; low = lowOf line; state = r .state };
+      length =
+          n;
+    }) (zeros (length high)) (zeros (length harea)) (zeros (length low)) (zeros (length larea))
+    text′
 begun-given line h high harea low larea text w e r x =
     rw e (given-by (startBy line) _ _ h high harea low larea text (start-begins line) w (rw e at r) (rw e at x))

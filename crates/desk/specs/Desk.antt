@@ -1,5 +1,5 @@
--- The replay script: what the program holds, "one station, its two rows with their data", and what each line does to it.
--- Assumes nothing.
+-- The replay script: what the program holds, "one station, its two rows with their data", and what each line does to
+-- it. Assumes nothing.
 use Prim.Native.Nat.{ℕ, _*_, _≤_}
 use mathlib.Core.Path.{_≡_}
 use mathlib.Core.Bool.{Bool, true, false}
@@ -9,12 +9,12 @@ use Rattle.choice.specs.Choice.{pick, less, same, said}
 use Rattle.laid.specs.Laid.{Lays}
 use Rattle.request.specs.Record.{SIZE}
 use Rattle.queue.specs.Queue.{AREA}
-use Rattle.typed.specs.Places.{SHORT}
+use Rattle.typed.specs.Places.{LONGEST}
 use Rattle.typed_call.specs.declared.script.Call.{Call}
 use Rattle.typed_call.specs.declared.script.Call.the-variants.{Unknown, Start, Submit, Frame, Sent, Slot, Reset}
 use Rattle.typed_call.specs.declared.script.Call.the-variants.{Collect, Show}
 use Rattle.typed_call.specs.Script.{callOf}
-use Rattle.typed_call.specs.Operands.{numberAt}
+use Rattle.typed_call.specs.Operands.{highOf, lowOf}
 use Rattle.state.specs.declared.State.{State}
 use Rattle.state.specs.World.{Rows, rows}
 use Rattle.state.specs.Calls.{Started, Unstarted, Station}
@@ -69,15 +69,15 @@ starts Show = false
 
 unfoldable pub answerBy : Call → List ℕ → Desk → Answered
 answerBy c l d =
-    pick (said (starts c)) (starting (startBy l) (numberAt l 11 SHORT) (numberAt l 12 SHORT) d) (answerOther c l d)
+    pick (said (starts c)) (starting (startBy l) (highOf l) (lowOf l) d) (answerOther c l d)
 
--- "Empty lines and lines whose first character is `#` print nothing, however long they are. Any other line is at most 4096
--- characters without its line end": a longer one "prints `?` and changes nothing"
+-- "Empty lines and lines whose first character is `#` print nothing, however long they are. Any other line is at most
+-- 4096 characters without its line end": a longer one "prints `?` and changes nothing"
 unfoldable pub answer : List ℕ → Desk → Answered
 answer l d =
     pick (same (length l) 0) (says [] d)
     (pick (same (getD l 0 0) 0x23) (says [] d)
-    (pick (less 4096 (length l)) (says unknownLine d) (answerBy (callOf l) l d)))
+    (pick (less LONGEST (length l)) (says unknownLine d) (answerBy (callOf l) l d)))
 
 -- the desk that is held, where each row is the first places of an array
 unfoldable pub deskOf : Held → List ℕ → List ℕ → List ℕ → List ℕ → Desk

@@ -1,5 +1,5 @@
--- Scripts: lines one after another. A station that a script started stands where a run of calls left it, as demand 3 has
--- runs, so that every theorem about runs speaks of it. Assumes nothing.
+-- Scripts: lines one after another. A station that a script started stands where a run of calls left it, as demand 3
+-- has runs, so that every theorem about runs speaks of it. Assumes nothing.
 use Prim.Native.Nat.{ℕ}
 use mathlib.Core.Bool.{false}
 use mathlib.Core.List.{List, [], _∷_}

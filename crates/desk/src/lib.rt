@@ -3,24 +3,22 @@
 ghost use mathlib.Core.Path.{_≡_};
 ghost use Prim.Native.Nat.{_≤_};
 ghost use lib.ListN.{length, replicate};
-ghost use Rattle.typed.specs.Places.{SHORT as Places·SHORT};
-ghost use Rattle.typed_call.specs.Operands.{numberAt};
+ghost use Rattle.typed.specs.Places.{LONGEST as Places·LONGEST};
+ghost use Rattle.typed_call.specs.Operands.{highOf, lowOf};
 ghost use Rattle.play.specs.Play.{startBy};
 ghost use Rattle.desk.specs.Desk.{Arrays, Few, Answers, deskOf, starts as Desk·starts, starting, answerOther};
 ghost use Rattle.desk.specs.Desk.{answerBy, answer as Desk·answer};
 use printed_lines::saying;
 use state::State;
+use typed::places::LONGEST;
 use typed_call::operands;
 use typed_call::script;
 use typed_call::script::Call;
 
-const SHORT: u32 = 255;
-
 const COMMENT: u8 = 0x23;
 
-const LONGEST: usize = 4096;
-
-// What is held beside the arrays of the rows: whether a start was accepted, how many places each row has, and the state.
+// What is held beside the arrays of the rows: whether a start was accepted, how many places each row has, and the
+// state.
 pub struct Held {
     pub begun: bool,
     pub high: usize,
@@ -57,8 +55,8 @@ fn begin(
 ) -> Said
     requires { ⌜ (Arrays (now high) (now harea) (now low) (now larea) (now text)) × (Few h) ⌝ }
     ensures { λ r. ⌜ Answers
-        (starting (startBy (now (line .entry))) (numberAt (now (line .entry)) 11 Places·SHORT)
-        (numberAt (now (line .entry)) 12 Places·SHORT)
+        (starting (startBy (now (line .entry))) (highOf (now (line .entry)))
+        (lowOf (now (line .entry)))
         (deskOf h (now (high .entry)) (now (harea .entry)) (now (low .entry)) (now (larea .entry))))
         (now (text .entry)) r (now (high .exit)) (now (harea .exit)) (now (low .exit)) (now (larea .exit))
         (now (text .exit)) ⌝ }
@@ -76,8 +74,8 @@ fn begin(
     Said {
         held: Held {
             begun: true,
-            high: operands::number(line, 11, SHORT) as usize,
-            low: operands::number(line, 12, SHORT) as usize,
+            high: operands::high(line),
+            low: operands::low(line),
             state,
         },
         length,
@@ -96,7 +94,7 @@ fn go_on(
     text: &mut [u8],
 ) -> Said
     requires { ⌜ (Arrays (now high) (now harea) (now low) (now larea) (now text))
-        × (Few h) × (length (now line) ≤ 4096) ⌝ }
+        × (Few h) × (length (now line) ≤ Places·LONGEST) ⌝ }
     ensures { λ r. ⌜ Answers
         (answerOther call (now (line .entry))
         (deskOf h (now (high .entry)) (now (harea .entry)) (now (low .entry)) (now (larea .entry))))
@@ -163,7 +161,7 @@ fn answer_by(
     text: &mut [u8],
 ) -> Said
     requires { ⌜ (Arrays (now high) (now harea) (now low) (now larea) (now text))
-        × (Few h) × (length (now line) ≤ 4096) ⌝ }
+        × (Few h) × (length (now line) ≤ Places·LONGEST) ⌝ }
     ensures { λ r. ⌜ Answers
         (answerBy call (now (line .entry))
         (deskOf h (now (high .entry)) (now (harea .entry)) (now (low .entry)) (now (larea .entry))))

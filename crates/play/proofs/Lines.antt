@@ -13,8 +13,10 @@ use Rattle.printed_lines.specs.Saying.{printing}
 use Rattle.printed_lines.proofs.saying.Lines.{line-length, line-left}
 use Rattle.play.specs.Play.{stays}
 
-pub stays-told : (line : List ℕ) (s : State) (high low : Rows) (text : List ℕ) {n : ℕ} {text′ : List ℕ} → Lays text 0 line 8192 n text′
-    → _≡_ {A = Leaves Played} (leaves (record { state = s; length = n }) high low text′) (printing (stays line s high low) text)
+pub stays-told : (line : List ℕ) (s : State) (high low : Rows) (text : List ℕ) {n : ℕ} {text′ : List ℕ}
+    → Lays text 0 line 8192 n text′
+    → _≡_ {A = Leaves Played} (leaves (record { state = s; length = n }) high low text′)
+    (printing (stays line s high low) text)
 unfolding stays printing
 stays-told line s high low text x = rw (line-length x refl, line-left x refl)
 

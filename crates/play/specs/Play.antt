@@ -2,12 +2,11 @@
 -- calls are those of document 01 with what the line's words give them, and an output of 255 octets. Assumes nothing.
 use Prim.Native.Nat.{ℕ}
 use mathlib.Core.List.{List, []}
-use Rattle.typed.specs.Places.{LONG, SHORT}
 use Rattle.typed_call.specs.declared.script.Call.{Call}
 use Rattle.typed_call.specs.declared.script.Call.the-variants.{Unknown, Start, Submit, Frame, Sent, Slot, Reset}
 use Rattle.typed_call.specs.declared.script.Call.the-variants.{Collect, Show}
-use Rattle.typed_call.specs.Operands.{numberAt, octetsAt, settingsOf, tsOf, mastersOf, pointsOf, queueOf, requestOf}
-use Rattle.typed_call.specs.Operands.{roomOf}
+use Rattle.typed_call.specs.Operands.{settingsOf, tsOf, mastersOf, pointsOf, highOf, lowOf, queueOf, requestOf, dataOf}
+use Rattle.typed_call.specs.Operands.{clockOf, roomOf, firstOf, secondOf, heardOf}
 use Rattle.printed.specs.Printed.{shownLine}
 use Rattle.state.specs.declared.State.{State}
 use Rattle.state.specs.World.{Rows, World, Called, worldOf}
@@ -20,24 +19,24 @@ stays line s high low = record { state = s; high = high; low = low; line = line 
 
 -- `start`, which is given no station
 unfoldable pub startBy : List ℕ → Started
-startBy l = start (settingsOf l) (tsOf l) (mastersOf l) (pointsOf l) (numberAt l 11 SHORT) (numberAt l 12 SHORT)
+startBy l = start (settingsOf l) (tsOf l) (mastersOf l) (pointsOf l) (highOf l) (lowOf l)
 
 -- `submit QUEUE SERVICE DA DSAP SSAP DATA`
 unfoldable pub submitBy : List ℕ → World → Called
-submitBy l w = submit (queueOf l) (requestOf l) (octetsAt l 6) w
+submitBy l w = submit (queueOf l) (requestOf l) (dataOf l) w
 
 -- `frame CLOCK ROOM HIGH LOW OCTETS`
 unfoldable pub frameBy : List ℕ → World → Called
-frameBy l w = frame (numberAt l 1 LONG) (roomOf l) (octetsAt l 3) (octetsAt l 4) (octetsAt l 5) 255 w
+frameBy l w = frame (clockOf l) (roomOf l) (firstOf l) (secondOf l) (heardOf l) 255 w
 
 -- what a line does that is a call and no start
 unfoldable pub playedBy : Call → List ℕ → State → Rows → Rows → Plays
 playedBy Unknown l s high low = stays unknownLine s high low
 playedBy Start l s high low = stays unknownLine s high low
 playedBy Submit l s high low = playing plainOf (submitBy l (worldOf s high low))
-playedBy Frame l s high low = playing (answerOf (octetsAt l 5)) (frameBy l (worldOf s high low))
-playedBy Sent l s high low = playing (answerOf []) (sent (numberAt l 1 LONG) 255 (worldOf s high low))
-playedBy Slot l s high low = playing (answerOf []) (slot (numberAt l 1 LONG) 255 (worldOf s high low))
+playedBy Frame l s high low = playing (answerOf (heardOf l)) (frameBy l (worldOf s high low))
+playedBy Sent l s high low = playing (answerOf []) (sent (clockOf l) 255 (worldOf s high low))
+playedBy Slot l s high low = playing (answerOf []) (slot (clockOf l) 255 (worldOf s high low))
 playedBy Reset l s high low = playing plainOf (reset (worldOf s high low))
 playedBy Collect l s high low = playing (handedOf (queueOf l)) (collect (queueOf l) (worldOf s high low))
 playedBy Show l s high low = stays (shownLine (s .core) (s .masters .0)) s high low

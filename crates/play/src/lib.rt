@@ -1,11 +1,12 @@
-// A call of the replay script, played on a station that was started: what the words of its line give the call, the call,
-// and its line. Assumes nothing.
+// A call of the replay script, played on a station that was started: what the words of its line give the call, the
+// call, and its line. Assumes nothing.
 ghost use mathlib.Core.Path.{_≡_};
 ghost use Prim.Native.Nat.{_≤_};
 ghost use lib.ListN.{length};
 ghost use Rattle.state.specs.World.{rows, worldOf};
 ghost use Rattle.state.specs.Told.{leaves, startedOf};
-ghost use Rattle.typed_call.specs.Operands.{octetsAt};
+ghost use Rattle.typed.specs.Places.{LONGEST};
+ghost use Rattle.typed_call.specs.Operands.{heardOf};
 ghost use Rattle.printed_lines.specs.Saying.{plainOf, answerOf, played, printing};
 ghost use Rattle.play.specs.Play.{startBy, submitBy, frameBy, playedBy};
 use printed_lines::saying;
@@ -14,22 +15,19 @@ use state::Renewed;
 use state::State;
 use typed_call::operands;
 use typed_call::script::Call;
-
-const SHORT: u32 = 255;
+use typed_call::table;
 
 // Starts a station.
 pub fn start(line: &[u8]) -> Renewed
     ensures { λ r. ⌜ r ≡ startedOf (startBy (now (line .entry))) ⌝ }
 {
-    let high = operands::number(line, 11, SHORT) as usize;
-    let low = operands::number(line, 12, SHORT) as usize;
     station::start(
         operands::settings(line),
         operands::ts(line),
         operands::masters(line),
         operands::points(line),
-        high,
-        low,
+        operands::high(line),
+        operands::low(line),
     )
 }
 
@@ -43,7 +41,7 @@ fn submit(
     larea: &mut [u8],
     text: &mut [u8],
 ) -> Played
-    requires { ⌜ (length (now line) ≤ 4096) × (8192 ≤ length (now text)) ⌝ }
+    requires { ⌜ (length (now line) ≤ LONGEST) × (8192 ≤ length (now text)) ⌝ }
     ensures { λ a. ⌜ leaves a (rows (now (high .exit)) (now (harea .exit)))
         (rows (now (low .exit)) (now (larea .exit))) (now (text .exit))
         ≡ played plainOf
@@ -52,7 +50,7 @@ fn submit(
         (rows (now (low .entry)) (now (larea .entry))))) (now (text .entry)) ⌝ }
 {
     let mut data = [0u8; 2048];
-    let n = operands::octets(line, 6, &mut data);
+    let n = operands::octets(line, table::DATA, &mut data);
     let p = operands::queue(line);
     let r = operands::request(line);
     play_queues::submit(s, p, r, &data[..n], high, harea, low, larea, text)
@@ -68,10 +66,10 @@ fn frame(
     larea: &mut [u8],
     text: &mut [u8],
 ) -> Played
-    requires { ⌜ (length (now line) ≤ 4096) × (8192 ≤ length (now text)) ⌝ }
+    requires { ⌜ (length (now line) ≤ LONGEST) × (8192 ≤ length (now text)) ⌝ }
     ensures { λ a. ⌜ leaves a (rows (now (high .exit)) (now (harea .exit)))
         (rows (now (low .exit)) (now (larea .exit))) (now (text .exit))
-        ≡ played (answerOf (octetsAt (now (line .entry)) 5))
+        ≡ played (answerOf (heardOf (now (line .entry))))
         (frameBy (now (line .entry))
         (worldOf s (rows (now (high .entry)) (now (harea .entry)))
         (rows (now (low .entry)) (now (larea .entry))))) (now (text .entry)) ⌝ }
@@ -79,9 +77,9 @@ fn frame(
     let mut first = [0u8; 2048];
     let mut second = [0u8; 2048];
     let mut octets = [0u8; 2048];
-    let n = operands::octets(line, 3, &mut first);
-    let m = operands::octets(line, 4, &mut second);
-    let k = operands::octets(line, 5, &mut octets);
+    let n = operands::octets(line, table::HIGH, &mut first);
+    let m = operands::octets(line, table::LOW, &mut second);
+    let k = operands::octets(line, table::OCTETS, &mut octets);
     let clock = operands::clock(line);
     let room = operands::room(line);
     play_turns::frame(
@@ -110,7 +108,7 @@ pub fn play(
     larea: &mut [u8],
     text: &mut [u8],
 ) -> Played
-    requires { ⌜ (length (now line) ≤ 4096) × (8192 ≤ length (now text)) ⌝ }
+    requires { ⌜ (length (now line) ≤ LONGEST) × (8192 ≤ length (now text)) ⌝ }
     ensures { λ a. ⌜ leaves a (rows (now (high .exit)) (now (harea .exit)))
         (rows (now (low .exit)) (now (larea .exit))) (now (text .exit))
         ≡ printing

@@ -69,12 +69,13 @@ dash (c ∷ (d ∷ l)) = false
 unfoldable pub isOctets : List ℕ → Bool
 isOctets l = pick (said (dash l)) true (pick (same (length l % 2) 0) (said (allHex l)) false)
 
--- what reading such a word into an output of a length gives, and what it leaves there: nothing is done where the word is
--- no octets or the output is too short
+-- what reading such a word into an output of a length gives, and what it leaves there: nothing is done where the word
+-- is no octets or the output is too short
 unfoldable pub hex : List ℕ → ℕ → Octets
 hex l room =
     pick (said (isOctets l))
-    (pick (less room (length l / 2)) (record { good = false; count = 0 }) (record { good = true; count = length l / 2 }))
+    (pick (less room (length l / 2)) (record { good = false; count = 0 })
+    (record { good = true; count = length l / 2 }))
     (record { good = false; count = 0 })
 
 unfoldable pub hexLeft : List ℕ → List ℕ → List ℕ

@@ -1,6 +1,6 @@
 -- The replay script, "`masters`: addresses 0..126 joined by commas, in any order. `points`: access points 0..62 and the
--- word `none`, joined by commas; `-` for no access point at all"; "a second mention in a list changes nothing". A set is a
--- list of octets, 1 at each number in it. Assumes nothing.
+-- word `none`, joined by commas; `-` for no access point at all"; "a second mention in a list changes nothing". A set
+-- is a list of octets, 1 at each number in it. Assumes nothing.
 use Prim.Native.Nat.{ℕ, _+_, _-_}
 use mathlib.Core.Bool.{Bool, true, false}
 use mathlib.Core.List.{List, [], _∷_, _++_}
@@ -14,16 +14,27 @@ use Rattle.typed.specs.Digits.{decimal, number, dash}
 abbrev pub COMMA : ℕ
 COMMA = 44
 
--- "none", the set's place of it, and the greatest place of a set of points or of masters
+-- "addresses 0..126", "access points 0..62": the last of each, and the set's place of the word `none`
+abbrev pub LASTMASTER : ℕ
+LASTMASTER = 126
+
+abbrev pub LASTPOINT : ℕ
+LASTPOINT = 62
+
+abbrev pub NONEPLACE : ℕ
+NONEPLACE = 63
+
+-- "none", and the greatest place of a set of points or of masters
 abbrev pub none : List ℕ
 none = 0x6E ∷ (0x6F ∷ (0x6E ∷ (0x65 ∷ [])))
 
 unfoldable pub greatest : Bool → ℕ
-greatest points = pick points 63 126
+greatest points = pick points NONEPLACE LASTMASTER
 
 -- the place of an entry
 unfoldable pub entry : Bool → List ℕ → Number
-entry points e = pick points (pick (said (equal e none)) (number 63) (decimal e 62)) (decimal e 126)
+entry points e =
+    pick points (pick (said (equal e none)) (number NONEPLACE) (decimal e LASTPOINT)) (decimal e LASTMASTER)
 
 -- whether entries are good, and the set with those up to a bad one
 pub record Listed : Type 0 where

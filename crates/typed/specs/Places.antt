@@ -50,6 +50,17 @@ LONG = 4294967295
 abbrev pub SHORT : ℕ
 SHORT = 255
 
+-- what `-` is in the place of an access point: one more than fits it
+abbrev pub DASHED : ℕ
+DASHED = 256
+
+-- "Any other line is at most 4096 characters without its line end", so no word of it is more octets than half of that
+abbrev pub LONGEST : ℕ
+LONGEST = 4096
+
+abbrev pub MOSTOCTETS : ℕ
+MOSTOCTETS = 2048
+
 -- ---- the words that stand for a number
 -- a word that is one of two: 0 or 1
 unfoldable pub either : List ℕ → List ℕ → List ℕ → Number
@@ -63,19 +74,20 @@ queue w = either w w-high w-low
 unfoldable pub room : List ℕ → Number
 room w = either w (0x30 ∷ []) (0x31 ∷ [])
 
--- "`SERVICE`: `sda`, `sdn`, `srd`, `status`, `ident`, `lsap`": the number of the service
+-- "`SERVICE`: `sda`, `sdn`, `srd`, `status`, `ident`, `lsap` (the last three are refused 25)": a service's number
+unfoldable pub unserved : List ℕ → Number
+unserved w =
+    pick (said (equal w w-status)) (number 9)
+    (pick (said (equal w w-ident)) (number 14) (pick (said (equal w w-lsap)) (number 15) noNumber))
+
 unfoldable pub service : List ℕ → Number
 service w =
     pick (said (equal w w-sda)) (number 3)
-    (pick (said (equal w w-sdn)) (number 4)
-    (pick (said (equal w w-srd)) (number 12)
-    (pick (said (equal w w-status)) (number 9)
-    (pick (said (equal w w-ident)) (number 14)
-    (pick (said (equal w w-lsap)) (number 15) noNumber)))))
+    (pick (said (equal w w-sdn)) (number 4) (pick (said (equal w w-srd)) (number 12) (unserved w)))
 
--- "The access points may also be `-`": 256
+-- "The access points may also be `-`"
 unfoldable pub access : List ℕ → Number
-access w = pick (said (dash w)) (number 256) (decimal w SHORT)
+access w = pick (said (dash w)) (number DASHED) (decimal w SHORT)
 
 -- ---- what fits its place
 -- a line's first word is a call's, and it has as many words as that call

@@ -13,6 +13,13 @@ use super::words;
 
 const COMMA: u8 = 44;
 
+// The last address and the last access point that a list may hold, and the place of the word `none` in a set.
+const LASTMASTER: u32 = 126;
+
+const LASTPOINT: u32 = 62;
+
+const NONEPLACE: u32 = 63;
+
 // Where an entry begins, and whether all entries before it are good.
 struct Step {
     good: bool,
@@ -25,11 +32,11 @@ fn entry(e: &[u8], points: bool) -> Number
 {
     if points {
         if words::equal(e, b"none") {
-            return digits::valued(63);
+            return digits::valued(NONEPLACE);
         }
-        return digits::decimal(e, 62);
+        return digits::decimal(e, LASTPOINT);
     }
-    digits::decimal(e, 126)
+    digits::decimal(e, LASTMASTER)
 }
 
 // Adds an entry to a set, if it is good.

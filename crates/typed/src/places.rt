@@ -5,14 +5,24 @@ ghost use Prim.Native.Nat.{_+_, _≤_};
 ghost use Rattle.typed.specs.Words.{word};
 ghost use Rattle.typed.specs.Digits.{isOctets};
 ghost use Rattle.typed.specs.Places.{either as Places·either, queue as Places·queue, room as Places·room};
-ghost use Rattle.typed.specs.Places.{service as Places·service, access as Places·access, named as Places·named};
+ghost use Rattle.typed.specs.Places.{unserved as Places·unserved, service as Places·service};
+ghost use Rattle.typed.specs.Places.{access as Places·access, named as Places·named};
 ghost use Rattle.typed.specs.Places.{numbers as Places·numbers, isMasters, isPoints};
 use super::digits;
 use super::digits::Number;
 use super::lists;
 use super::words;
 
-const SHORT: u32 = 255;
+// The settings, TS and CLOCK are at most LONG; the row lengths, DA, DSAP and SSAP at most SHORT.
+pub const LONG: u32 = 4294967295;
+
+pub const SHORT: u32 = 255;
+
+// What `-` is in the place of an access point.
+const DASHED: u32 = 256;
+
+// A line has at most so many characters.
+pub const LONGEST: usize = 4096;
 
 // The number of a word that is one of two.
 fn either(w: &[u8], first: &[u8], second: &[u8]) -> Number
@@ -41,6 +51,22 @@ pub fn room(w: &[u8]) -> Number
     either(w, b"0", b"1")
 }
 
+// The number of a service that submit refuses.
+fn unserved(w: &[u8]) -> Number
+    ensures { λ r. ⌜ r ≡ Places·unserved (now (w .entry)) ⌝ }
+{
+    if words::equal(w, b"status") {
+        return digits::valued(9);
+    }
+    if words::equal(w, b"ident") {
+        return digits::valued(14);
+    }
+    if words::equal(w, b"lsap") {
+        return digits::valued(15);
+    }
+    digits::none()
+}
+
 // A service's number.
 pub fn service(w: &[u8]) -> Number
     ensures { λ r. ⌜ r ≡ Places·service (now (w .entry)) ⌝ }
@@ -54,24 +80,15 @@ pub fn service(w: &[u8]) -> Number
     if words::equal(w, b"srd") {
         return digits::valued(12);
     }
-    if words::equal(w, b"status") {
-        return digits::valued(9);
-    }
-    if words::equal(w, b"ident") {
-        return digits::valued(14);
-    }
-    if words::equal(w, b"lsap") {
-        return digits::valued(15);
-    }
-    digits::none()
+    unserved(w)
 }
 
-// An access point's number, and 256 of none.
+// An access point's number, or that of none.
 pub fn access(w: &[u8]) -> Number
     ensures { λ r. ⌜ r ≡ Places·access (now (w .entry)) ⌝ }
 {
     if digits::dash(w) {
-        return digits::valued(256);
+        return digits::valued(DASHED);
     }
     digits::decimal(w, SHORT)
 }
@@ -104,44 +121,44 @@ pub fn numbers(s: &[u8], k: usize, n: usize, most: u32) -> bool
     true
 }
 
-// Whether a word is a list of masters, and whether it is one of access points.
-pub fn is_masters(w: &[u8]) -> bool
-    ensures { λ r. ⌜ r ≡ isMasters (now (w .entry)) ⌝ }
+// Whether a word of a line is a list of masters, and whether it is one of access points.
+pub fn masters_at(s: &[u8], k: usize) -> bool
+    ensures { λ r. ⌜ r ≡ isMasters (word (now (s .entry)) k) ⌝ }
 {
     let mut set = [0u8; 127];
-    lists::masters(w, &mut set)
+    lists::masters(words::word(s, k), &mut set)
 }
 
-pub fn is_points(w: &[u8]) -> bool
-    ensures { λ r. ⌜ r ≡ isPoints (now (w .entry)) ⌝ }
+pub fn points_at(s: &[u8], k: usize) -> bool
+    ensures { λ r. ⌜ r ≡ isPoints (word (now (s .entry)) k) ⌝ }
 {
     let mut set = [0u8; 64];
-    lists::points(w, &mut set)
+    lists::points(words::word(s, k), &mut set)
 }
 
-// Whether a word is a queue, a room, a service, and an access point or none.
-pub fn is_queue(w: &[u8]) -> bool
-    ensures { λ r. ⌜ r ≡ Places·queue (now (w .entry)) .good ⌝ }
+// Whether a word of a line is a queue, a room, a service, and an access point or none.
+pub fn queue_at(s: &[u8], k: usize) -> bool
+    ensures { λ r. ⌜ r ≡ Places·queue (word (now (s .entry)) k) .good ⌝ }
 {
-    queue(w).good
+    queue(words::word(s, k)).good
 }
 
-pub fn is_room(w: &[u8]) -> bool
-    ensures { λ r. ⌜ r ≡ Places·room (now (w .entry)) .good ⌝ }
+pub fn room_at(s: &[u8], k: usize) -> bool
+    ensures { λ r. ⌜ r ≡ Places·room (word (now (s .entry)) k) .good ⌝ }
 {
-    room(w).good
+    room(words::word(s, k)).good
 }
 
-pub fn is_service(w: &[u8]) -> bool
-    ensures { λ r. ⌜ r ≡ Places·service (now (w .entry)) .good ⌝ }
+pub fn service_at(s: &[u8], k: usize) -> bool
+    ensures { λ r. ⌜ r ≡ Places·service (word (now (s .entry)) k) .good ⌝ }
 {
-    service(w).good
+    service(words::word(s, k)).good
 }
 
-pub fn is_access(w: &[u8]) -> bool
-    ensures { λ r. ⌜ r ≡ Places·access (now (w .entry)) .good ⌝ }
+pub fn access_at(s: &[u8], k: usize) -> bool
+    ensures { λ r. ⌜ r ≡ Places·access (word (now (s .entry)) k) .good ⌝ }
 {
-    access(w).good
+    access(words::word(s, k)).good
 }
 
 // Whether a word of a line is octets.

@@ -8,6 +8,7 @@ use Rattle.typed.specs.Words.{word}
 use Rattle.typed.specs.Digits.{decimal, isOctets, octets}
 use Rattle.typed.specs.Lists.{list}
 use Rattle.typed.specs.Places.{LONG, SHORT, queue, room, service, access}
+use Rattle.typed_call.specs.Table as Table
 use Rattle.times.specs.declared.Settings.{Settings}
 use Rattle.request.specs.declared.Record.{Record}
 use Rattle.request.specs.Record.{WAITING}
@@ -37,40 +38,62 @@ point n = pick (same n NONE) 254 (octet n)
 unfoldable pub settingsOf : List ℕ → Settings
 settingsOf l =
     record {
-      tset = record { 0 = numberAt l 1 LONG };
-      tqui = record { 0 = numberAt l 2 LONG };
-      mintsdr = record { 0 = numberAt l 3 LONG };
-      maxtsdr = record { 0 = numberAt l 4 LONG };
-      ttd = record { 0 = numberAt l 5 LONG };
-      ttr = record { 0 = numberAt l 6 LONG };
-      retries = record { 0 = numberAt l 7 LONG };
+      tset = record { 0 = numberAt l Table.TSET LONG };
+      tqui = record { 0 = numberAt l Table.TQUI LONG };
+      mintsdr = record { 0 = numberAt l Table.MINTSDR LONG };
+      maxtsdr = record { 0 = numberAt l Table.MAXTSDR LONG };
+      ttd = record { 0 = numberAt l Table.TTD LONG };
+      ttr = record { 0 = numberAt l Table.TTR LONG };
+      retries = record { 0 = numberAt l Table.RETRY LONG };
     }
 
 unfoldable pub tsOf : List ℕ → ℕ
-tsOf l = octet (numberAt l 8 LONG)
+tsOf l = octet (numberAt l Table.TS LONG)
 
 unfoldable pub mastersOf : List ℕ → List ℕ
-mastersOf l = list false (word l 9) (replicate 127 0) .marks
+mastersOf l = list false (word l Table.MASTERS) (replicate 127 0) .marks
 
 unfoldable pub pointsOf : List ℕ → List ℕ
-pointsOf l = list true (word l 10) (replicate 64 0) .marks
+pointsOf l = list true (word l Table.POINTS) (replicate 64 0) .marks
+
+abbrev pub highOf : List ℕ → ℕ
+highOf l = numberAt l Table.HIGHROW SHORT
+
+abbrev pub lowOf : List ℕ → ℕ
+lowOf l = numberAt l Table.LOWROW SHORT
 
 -- `submit QUEUE SERVICE DA DSAP SSAP DATA`, `collect QUEUE`
 unfoldable pub queueOf : List ℕ → Priority
-queueOf l = pick (same (queue (word l 1) .value) 0) High Low
+queueOf l = pick (same (queue (word l Table.QUEUE) .value) 0) High Low
 
 unfoldable pub requestOf : List ℕ → Record
 requestOf l =
     record {
-      service = octet (service (word l 2) .value);
-      destination = record { 0 = octet (numberAt l 3 SHORT) };
-      to = record { 0 = point (access (word l 4) .value) };
-      from = record { 0 = point (access (word l 5) .value) };
+      service = octet (service (word l Table.SERVICE) .value);
+      destination = record { 0 = octet (numberAt l Table.DA SHORT) };
+      to = record { 0 = point (access (word l Table.DSAP) .value) };
+      from = record { 0 = point (access (word l Table.SSAP) .value) };
       length = 0;
       status = WAITING;
       count = 0;
     }
 
--- `frame CLOCK ROOM HIGH LOW OCTETS`: "`1` if the caller has room for one indication, else `0`"
+abbrev pub dataOf : List ℕ → List ℕ
+dataOf l = octetsAt l Table.DATA
+
+-- `frame CLOCK ROOM HIGH LOW OCTETS`, `sent CLOCK`, `slot CLOCK`
+abbrev pub clockOf : List ℕ → ℕ
+clockOf l = numberAt l Table.CLOCK LONG
+
+-- "`1` if the caller has room for one indication, else `0`"
 unfoldable pub roomOf : List ℕ → Bool
-roomOf l = same (room (word l 2) .value) 1
+roomOf l = same (room (word l Table.ROOM) .value) 1
+
+abbrev pub firstOf : List ℕ → List ℕ
+firstOf l = octetsAt l Table.HIGH
+
+abbrev pub secondOf : List ℕ → List ℕ
+secondOf l = octetsAt l Table.LOW
+
+abbrev pub heardOf : List ℕ → List ℕ
+heardOf l = octetsAt l Table.OCTETS

@@ -7,6 +7,7 @@ use Rattle.choice.specs.Choice.{pick, said}
 use Rattle.typed.specs.Words.{word}
 use Rattle.typed.specs.Digits.{isOctets}
 use Rattle.typed.specs.Places.{LONG, SHORT, queue, room, service, access, named, numbers, isMasters, isPoints}
+use Rattle.typed_call.specs.Table as Table
 use Rattle.typed_call.specs.declared.script.Call.{Call}
 use Rattle.typed_call.specs.declared.script.Call.the-variants.{Unknown, Start, Submit, Frame, Sent, Slot, Reset}
 use Rattle.typed_call.specs.declared.script.Call.the-variants.{Collect, Show}
@@ -46,48 +47,61 @@ w-show = 0x73 ∷ (0x68 ∷ (0x6F ∷ (0x77 ∷ [])))
 
 -- ---- the calls
 -- `start Tset Tqui minTSDR maxTSDR TTD TTR retry TS masters points high low`
+unfoldable pub isSite : List ℕ → Bool
+isSite l =
+    pick (said (isMasters (word l Table.MASTERS)))
+    (pick (said (isPoints (word l Table.POINTS))) (numbers l Table.HIGHROW Table.ROWS SHORT) false) false
+
 unfoldable pub isStart : List ℕ → Bool
 isStart l =
-    pick (said (named l w-start 13))
-    (pick (said (numbers l 1 8 LONG))
-    (pick (said (isMasters (word l 9)))
-    (pick (said (isPoints (word l 10))) (said (numbers l 11 2 SHORT)) false) false) false) false
+    pick (said (named l w-start Table.STARTWORDS))
+    (pick (said (numbers l Table.TSET Table.LONGS LONG)) (isSite l) false) false
 
 -- `submit QUEUE SERVICE DA DSAP SSAP DATA`
+unfoldable pub isPointed : List ℕ → Bool
+isPointed l =
+    pick (said (access (word l Table.DSAP) .good))
+    (pick (said (access (word l Table.SSAP) .good)) (isOctets (word l Table.DATA)) false) false
+
+unfoldable pub isRequest : List ℕ → Bool
+isRequest l =
+    pick (said (service (word l Table.SERVICE) .good))
+    (pick (said (numbers l Table.DA 1 SHORT)) (isPointed l) false) false
+
 unfoldable pub isSubmit : List ℕ → Bool
 isSubmit l =
-    pick (said (named l w-submit 7))
-    (pick (said (queue (word l 1) .good))
-    (pick (said (service (word l 2) .good))
-    (pick (said (numbers l 3 1 SHORT))
-    (pick (said (access (word l 4) .good))
-    (pick (said (access (word l 5) .good)) (said (isOctets (word l 6))) false) false) false) false) false) false
+    pick (said (named l w-submit Table.SUBMITWORDS))
+    (pick (said (queue (word l Table.QUEUE) .good)) (isRequest l) false) false
 
 -- `frame CLOCK ROOM HIGH LOW OCTETS`
+unfoldable pub isHeard : List ℕ → Bool
+isHeard l =
+    pick (said (isOctets (word l Table.HIGH)))
+    (pick (said (isOctets (word l Table.LOW))) (isOctets (word l Table.OCTETS)) false) false
+
 unfoldable pub isFrame : List ℕ → Bool
 isFrame l =
-    pick (said (named l w-frame 6))
-    (pick (said (numbers l 1 1 LONG))
-    (pick (said (room (word l 2) .good))
-    (pick (said (isOctets (word l 3)))
-    (pick (said (isOctets (word l 4))) (said (isOctets (word l 5))) false) false) false) false) false
+    pick (said (named l w-frame Table.FRAMEWORDS))
+    (pick (said (numbers l Table.CLOCK 1 LONG))
+    (pick (said (room (word l Table.ROOM) .good)) (isHeard l) false) false) false
 
 -- `sent CLOCK` and `slot CLOCK`
 unfoldable pub isClocked : List ℕ → List ℕ → Bool
-isClocked l name = pick (said (named l name 2)) (said (numbers l 1 1 LONG)) false
+isClocked l name = pick (said (named l name Table.CLOCKEDWORDS)) (numbers l Table.CLOCK 1 LONG) false
 
 -- `collect QUEUE`
 unfoldable pub isCollect : List ℕ → Bool
-isCollect l = pick (said (named l w-collect 2)) (said (queue (word l 1) .good)) false
+isCollect l = pick (said (named l w-collect Table.COLLECTWORDS)) (queue (word l Table.QUEUE) .good) false
 
--- the call that a line is
+-- the call that a line is: of those given nothing but a queue, of these and those given nothing but a clock, and of all
+unfoldable pub plainOf : List ℕ → Call
+plainOf l =
+    pick (said (named l w-reset Table.ALONE)) Reset
+    (pick (said (isCollect l)) Collect (pick (said (named l w-show Table.ALONE)) Show Unknown))
+
+unfoldable pub clockedOf : List ℕ → Call
+clockedOf l = pick (said (isClocked l w-sent)) Sent (pick (said (isClocked l w-slot)) Slot (plainOf l))
+
 unfoldable pub callOf : List ℕ → Call
 callOf l =
-    pick (said (isStart l)) Start
-    (pick (said (isSubmit l)) Submit
-    (pick (said (isFrame l)) Frame
-    (pick (said (isClocked l w-sent)) Sent
-    (pick (said (isClocked l w-slot)) Slot
-    (pick (said (named l w-reset 1)) Reset
-    (pick (said (isCollect l)) Collect
-    (pick (said (named l w-show 1)) Show Unknown)))))))
+    pick (said (isStart l)) Start (pick (said (isSubmit l)) Submit (pick (said (isFrame l)) Frame (clockedOf l)))

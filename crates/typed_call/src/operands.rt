@@ -4,10 +4,13 @@ ghost use mathlib.Core.Path.{_≡_};
 ghost use Prim.Native.Nat.{_≤_};
 ghost use lib.ListN.{length, take};
 ghost use Rattle.typed.specs.Words.{word};
-ghost use Rattle.typed.specs.Places.{access as Places·access, service as Places·service};
+ghost use Rattle.typed.specs.Places.{access as Places·access, service as Places·service, LONG as Places·LONG};
+ghost use Rattle.typed.specs.Places.{LONGEST, MOSTOCTETS};
+ghost use Rattle.typed_call.specs.Table.{SERVICE};
 ghost use Rattle.typed_call.specs.Operands.{numberAt, octetsAt, octet as Operands·octet};
 ghost use Rattle.typed_call.specs.Operands.{point as Operands·point, settingsOf, tsOf, mastersOf, pointsOf};
-ghost use Rattle.typed_call.specs.Operands.{queueOf, requestOf, roomOf};
+ghost use Rattle.typed_call.specs.Operands.{highOf, lowOf, queueOf, requestOf, clockOf, roomOf};
+use super::table;
 use clock::BitTime;
 use frame::Address;
 use frame::Point;
@@ -20,14 +23,12 @@ use times::Settings;
 use typed::digits;
 use typed::lists;
 use typed::places;
+use typed::places::LONG;
+use typed::places::SHORT;
 use typed::words;
 
-const LONG: u32 = 4294967295;
-
-const SHORT: u32 = 255;
-
 // The number that word k is, of at most a greatest.
-pub fn number(line: &[u8], k: usize, most: u32) -> u32
+fn number(line: &[u8], k: usize, most: u32) -> u32
     ensures { λ r. ⌜ r ≡ numberAt (now (line .entry)) k most ⌝ }
 {
     let d = digits::decimal(words::word(line, k), most);
@@ -36,21 +37,21 @@ pub fn number(line: &[u8], k: usize, most: u32) -> u32
 
 // A bit time that word k is.
 fn time(line: &[u8], k: usize) -> BitTime
-    ensures { λ r. ⌜ r .0 ≡ numberAt (now (line .entry)) k 4294967295 ⌝ }
+    ensures { λ r. ⌜ r .0 ≡ numberAt (now (line .entry)) k Places·LONG ⌝ }
 {
     BitTime(number(line, k, LONG))
 }
 
 // The clock of frame, sent and slot.
 pub fn clock(line: &[u8]) -> BitTime
-    ensures { λ r. ⌜ r .0 ≡ numberAt (now (line .entry)) 1 4294967295 ⌝ }
+    ensures { λ r. ⌜ r .0 ≡ clockOf (now (line .entry)) ⌝ }
 {
-    time(line, 1)
+    time(line, table::CLOCK)
 }
 
 // The octets that word k is, laid at the start of an output, and their count.
 pub fn octets(line: &[u8], k: usize, out: &mut [u8]) -> usize
-    requires { ⌜ (length (now line) ≤ 4096) × (2048 ≤ length (now out)) ⌝ }
+    requires { ⌜ (length (now line) ≤ LONGEST) × (MOSTOCTETS ≤ length (now out)) ⌝ }
     ensures { λ r. ⌜ (take r (now (out .exit)) ≡ octetsAt (now (line .entry)) k) × (r ≤ length (now (out .exit))) ⌝ }
 {
     let h = digits::hex(words::word(line, k), out);
@@ -82,13 +83,13 @@ pub fn settings(line: &[u8]) -> Settings
     ensures { λ r. ⌜ r ≡ settingsOf (now (line .entry)) ⌝ }
 {
     Settings {
-        tset: time(line, 1),
-        tqui: time(line, 2),
-        mintsdr: time(line, 3),
-        maxtsdr: time(line, 4),
-        ttd: time(line, 5),
-        ttr: time(line, 6),
-        retries: Count(number(line, 7, LONG)),
+        tset: time(line, table::TSET),
+        tqui: time(line, table::TQUI),
+        mintsdr: time(line, table::MINTSDR),
+        maxtsdr: time(line, table::MAXTSDR),
+        ttd: time(line, table::TTD),
+        ttr: time(line, table::TTR),
+        retries: Count(number(line, table::RETRY, LONG)),
     }
 }
 
@@ -96,7 +97,7 @@ pub fn settings(line: &[u8]) -> Settings
 pub fn ts(line: &[u8]) -> Address
     ensures { λ r. ⌜ r .0 ≡ tsOf (now (line .entry)) ⌝ }
 {
-    Address(octet(number(line, 8, LONG)))
+    Address(octet(number(line, table::TS, LONG)))
 }
 
 // The set of masters of start.
@@ -104,7 +105,7 @@ pub fn masters(line: &[u8]) -> Masters
     ensures { λ r. ⌜ r .0 ≡ mastersOf (now (line .entry)) ⌝ }
 {
     let mut set = [0u8; 127];
-    let _good = lists::masters(words::word(line, 9), &mut set);
+    let _good = lists::masters(words::word(line, table::MASTERS), &mut set);
     Masters(set)
 }
 
@@ -113,15 +114,28 @@ pub fn points(line: &[u8]) -> Points
     ensures { λ r. ⌜ r .0 ≡ pointsOf (now (line .entry)) ⌝ }
 {
     let mut set = [0u8; 64];
-    let _good = lists::points(words::word(line, 10), &mut set);
+    let _good = lists::points(words::word(line, table::POINTS), &mut set);
     Points(set)
+}
+
+// The row lengths of start.
+pub fn high(line: &[u8]) -> usize
+    ensures { λ r. ⌜ r ≡ highOf (now (line .entry)) ⌝ }
+{
+    number(line, table::HIGHROW, SHORT) as usize
+}
+
+pub fn low(line: &[u8]) -> usize
+    ensures { λ r. ⌜ r ≡ lowOf (now (line .entry)) ⌝ }
+{
+    number(line, table::LOWROW, SHORT) as usize
 }
 
 // The queue of submit and collect.
 pub fn queue(line: &[u8]) -> Priority
     ensures { λ r. ⌜ r ≡ queueOf (now (line .entry)) ⌝ }
 {
-    let q = places::queue(words::word(line, 1));
+    let q = places::queue(words::word(line, table::QUEUE));
     if q.value == 0 {
         return Priority::High;
     }
@@ -138,9 +152,9 @@ fn point_at(line: &[u8], k: usize) -> Point
 
 // The service of submit.
 fn service(line: &[u8]) -> u8
-    ensures { λ r. ⌜ r ≡ Operands·octet (Places·service (word (now (line .entry)) 2) .value) ⌝ }
+    ensures { λ r. ⌜ r ≡ Operands·octet (Places·service (word (now (line .entry)) SERVICE) .value) ⌝ }
 {
-    let s = places::service(words::word(line, 2));
+    let s = places::service(words::word(line, table::SERVICE));
     octet(s.value)
 }
 
@@ -148,12 +162,12 @@ fn service(line: &[u8]) -> u8
 pub fn request(line: &[u8]) -> Record
     ensures { λ r. ⌜ r ≡ requestOf (now (line .entry)) ⌝ }
 {
-    let destination = octet(number(line, 3, SHORT));
+    let destination = octet(number(line, table::DA, SHORT));
     Record {
         service: service(line),
         destination: Address(destination),
-        to: point_at(line, 4),
-        from: point_at(line, 5),
+        to: point_at(line, table::DSAP),
+        from: point_at(line, table::SSAP),
         length: 0,
         status: request::WAITING,
         count: 0,
@@ -164,7 +178,7 @@ pub fn request(line: &[u8]) -> Record
 pub fn room(line: &[u8]) -> bool
     ensures { λ r. ⌜ r ≡ roomOf (now (line .entry)) ⌝ }
 {
-    let n = places::room(words::word(line, 2));
+    let n = places::room(words::word(line, table::ROOM));
     if n.value == 1 {
         return true;
     }

@@ -12,28 +12,63 @@ use Rattle.desk.proofs.Holding.{silent, keeps}
 
 returns : tie.Need-returns
 unfolding answer pick
-returns c = let a = c .before .before .before .before .before .before .before .args in rw (same-true (c .if1 .taken)) (silent (a .h) (a .high .now) (a .harea .now) (a .low .now) (a .larea .now) (a .text .now) (c .before .before .before .before .before .before .before .pre .1))
+returns c =
+    let start : tie.Start = search depth 0 in
+    let a = start .args in rw (same-true (c .if1 .taken))
+    (silent (a .h) (a .high .now) (a .harea .now) (a .low .now) (a .larea .now) (a .text .now) (start .pre .1))
 
 shared-slice-read-if2 : tie.Need-shared-slice-read-if2
 shared-slice-read-if2 c = omega arith
 
 returns-2 : tie.Need-returns-2
 unfolding answer pick
-returns-2 c = let a = c .before .before .before .before .before .before .before .before .before .args in rw (same-false (c .before .before .if1 .left), same-true (c .if2 .taken)) (silent (a .h) (a .high .now) (a .harea .now) (a .low .now) (a .larea .now) (a .text .now) (c .before .before .before .before .before .before .before .before .before .pre .1))
+returns-2 c =
+    let else1 : tie.Else1 = search depth 0 in
+    let start : tie.Start = search depth 0 in
+    let a = start .args in rw (same-false (else1 .if1 .left), same-true (c .if2 .taken))
+    (silent (a .h) (a .high .now) (a .harea .now) (a .low .now) (a .larea .now) (a .text .now) (start .pre .1))
 
 unknown-requires : tie.Need-unknown-requires
-unknown-requires c κs = omega (arith, c .before .before .before .before .before .before .before .before .before .before .before .pre .0 .text)
+unknown-requires c κs =
+    let else1 : tie.Else1 = search depth 0 in
+    let start : tie.Start = search depth 0 in
+    omega (arith, start .pre .0 .text)
 
 returns-3 : tie.Need-returns-3
 unfolding answer pick
-returns-3 c = let a = c .before .before .before .before .before .before .before .before .before .before .before .before .before .before .args in rw (same-false (c .before .before .before .before .before .before .before .if1 .left), same-false (c .before .before .before .before .before .if2 .left), less-true (c .before .before .before .before .if3 .taken)) (keeps unknownLine (a .h) (a .high .now) (a .harea .now) (a .low .now) (a .larea .now) (a .text .now) (c .before .before .before .before .before .before .before .before .before .before .before .before .before .before .pre .1) (c .before .before .unknown .ensures))
+returns-3 c =
+    let after-unknown : tie.After-unknown = search depth 0 in
+    let then3 : tie.Then3 = search depth 0 in
+    let else2 : tie.Else2 = search depth 0 in
+    let else1 : tie.Else1 = search depth 0 in
+    let start : tie.Start = search depth 0 in
+    let a = start .args in rw
+    (same-false (else1 .if1 .left), same-false (else2 .if2 .left), less-true (then3 .if3 .taken))
+    (keeps unknownLine (a .h) (a .high .now) (a .harea .now) (a .low .now) (a .larea .now) (a .text .now)
+    (start .pre .1) (after-unknown .unknown .ensures))
 
 answer-by-requires : tie.Need-answer-by-requires
-answer-by-requires c κs = (c .before .before .before .before .before .before .before .before .before .before .before .before .before .before .before .before .pre .0, c .before .before .before .before .before .before .before .before .before .before .before .before .before .before .before .before .pre .1, c .before .before .before .before .before .before .if3 .left)
+answer-by-requires c κs =
+    let else3 : tie.Else3 = search depth 0 in
+    let else1 : tie.Else1 = search depth 0 in
+    let start : tie.Start = search depth 0 in
+    (start .pre .0, start .pre .1, else3 .if3 .left)
 
 returns-4 : tie.Need-returns-4
 unfolding answer pick
-returns-4 c = rw (same-false (c .before .before .before .before .before .before .before .before .before .before .before .before .before .before .before .before .before .before .before .before .if1 .left), same-false (c .before .before .before .before .before .before .before .before .before .before .before .before .before .before .before .before .before .before .if2 .left), less-false (c .before .before .before .before .before .before .before .before .before .before .before .before .before .before .before .before .before .if3 .left), ← c .before .before .before .before .before .before .before .before .before .before .before .before .before .before .before .before .call-of .ensures) (c .before .before .before .before .before .before .before .before .before .before .answer-by .ensures)
+returns-4 c =
+    let after-harea : tie.After-harea = search depth 0 in
+    let after-answer-by : tie.After-answer-by = search depth 0 in
+    let after-call-of : tie.After-call-of = search depth 0 in
+    let else3 : tie.Else3 = search depth 0 in
+    let else2 : tie.Else2 = search depth 0 in
+    let else1 : tie.Else1 = search depth 0 in
+    rw (
+      same-false (else1 .if1 .left),
+      same-false (else2 .if2 .left),
+      less-false (else3 .if3 .left),
+      ← after-call-of .call-of .ensures,
+    ) (after-answer-by .answer-by .ensures)
 
 pub answer-spec : {M : Type 1} → statement M
 answer-spec =

@@ -24,16 +24,28 @@ add-i : tie.Need-add-i Inv-loop μ-loop
 add-i c = omega arith
 
 loop-less : tie.Need-loop-less Inv-loop μ-loop
-loop-less c = omega (arith, length-set (c .before .loop .a) (c .before .loop .i) 0)
+loop-less c =
+    let at-loop : tie.At-loop Inv-loop μ-loop = search depth 0 in
+    omega (arith, length-set (at-loop .loop .a) (at-loop .loop .i) 0)
 
 loop-again : tie.Need-loop-again Inv-loop μ-loop
-loop-again c = (length-set (c .before .loop .a) (c .before .loop .i) 0 ∙ c .before .loop .inv .0, omega (arith, length-set (c .before .loop .a) (c .before .loop .i) 0), zeros-more (c .before .loop .a) (c .before .loop .i) (c .loop-test .taken) (c .before .loop .inv .2))
+loop-again c =
+    let at-loop : tie.At-loop Inv-loop μ-loop = search depth 0 in (
+      length-set (at-loop .loop .a) (at-loop .loop .i) 0 ∙ at-loop .loop .inv .0,
+      omega (arith, length-set (at-loop .loop .a) (at-loop .loop .i) 0),
+      zeros-more (at-loop .loop .a) (at-loop .loop .i) (c .loop-test .taken) (at-loop .loop .inv .2),
+    )
 
 same-length : tie.Need-same-length Inv-loop μ-loop
-same-length c = c .before .loop .inv .0
+same-length c =
+    let at-loop : tie.At-loop Inv-loop μ-loop = search depth 0 in
+    at-loop .loop .inv .0
 
 returns : tie.Need-returns Inv-loop μ-loop
-returns c = zeros-all (c .before .loop .a) (c .before .loop .i) (c .loop-test .left) (c .before .loop .inv .2) (c .before .loop .inv .1) ∙ ap zeros (c .before .loop .inv .0)
+returns c =
+    let at-loop : tie.At-loop Inv-loop μ-loop = search depth 0 in
+    zeros-all (at-loop .loop .a) (at-loop .loop .i) (c .loop-test .left) (at-loop .loop .inv .2)
+    (at-loop .loop .inv .1) ∙ ap zeros (at-loop .loop .inv .0)
 
 pub clear-spec : {M : Type 1} → statement M
 clear-spec =

@@ -11,33 +11,72 @@ use borrow.Author.Tests.{not-true, not-false}
 use Rattle.desk.proofs.Holding.{unbegun, goes-on}
 
 unknown-requires : tie.Need-unknown-requires
-unknown-requires c κs = omega (arith, c .before .before .before .before .before .before .before .before .before .before .pre .0 .text)
+unknown-requires c κs =
+    let after-s : tie.After-s = search depth 0 in
+    let at-start : tie.Start = search depth 0 in
+    omega (arith, at-start .pre .0 .text)
 
 returns : tie.Need-returns
-returns c = let a = c .before .before .before .before .before .before .before .before .before .before .before .before .before .args in unbegun (a .call) (a .line .now) (a .h) (a .high .now) (a .harea .now) (a .low .now) (a .larea .now) (a .text .now) (not-true _ (c .before .before .before .before .if1 .taken)) (c .before .before .before .before .before .before .before .before .before .before .before .before .before .pre .1) (c .before .before .unknown .ensures)
+returns c =
+    let after-unknown : tie.After-unknown = search depth 0 in
+    let then1 : tie.Then1 = search depth 0 in
+    let after-s : tie.After-s = search depth 0 in
+    let at-start : tie.Start = search depth 0 in
+    let a = at-start .args in unbegun (a .call) (a .line .now) (a .h) (a .high .now) (a .harea .now) (a .low .now)
+    (a .larea .now) (a .text .now) (not-true _ (then1 .if1 .taken)) (at-start .pre .1)
+    (after-unknown .unknown .ensures)
 
 slice-aggregate-play : tie.Need-slice-aggregate-play
-slice-aggregate-play c = sym (length-take-le (7 * c .before .before .before .before .before .before .before .before .before .before .args .h .high) (c .before .before .before .before .before .before .before .before .before .before .args .high .now) (omega (arith, c .before .before .before .before .before .before .before .before .before .before .pre .0 .high, c .before .before .before .before .before .before .before .before .before .before .pre .1 .high)))
+slice-aggregate-play c =
+    let after-s : tie.After-s = search depth 0 in
+    let at-start : tie.Start = search depth 0 in
+    sym
+    (length-take-le (7 * at-start .args .h .high) (at-start .args .high .now)
+    (omega (arith, at-start .pre .0 .high, at-start .pre .1 .high)))
 
 slice-aggregate-play-2 : tie.Need-slice-aggregate-play-2
-slice-aggregate-play-2 c = sym (length-take-le (246 * c .before .before .before .before .before .before .before .before .before .before .before .args .h .high) (c .before .before .before .before .before .before .before .before .before .before .before .args .harea .now) (omega (arith, c .before .before .before .before .before .before .before .before .before .before .before .pre .0 .harea, c .before .before .before .before .before .before .before .before .before .before .before .pre .1 .high)))
+slice-aggregate-play-2 c =
+    let after-s : tie.After-s = search depth 0 in
+    let at-start : tie.Start = search depth 0 in
+    sym
+    (length-take-le (246 * at-start .args .h .high) (at-start .args .harea .now)
+    (omega (arith, at-start .pre .0 .harea, at-start .pre .1 .high)))
 
 slice-aggregate-play-3 : tie.Need-slice-aggregate-play-3
-slice-aggregate-play-3 c = sym (length-take-le (7 * c .before .before .before .before .before .before .before .before .before .before .before .before .args .h .low) (c .before .before .before .before .before .before .before .before .before .before .before .before .args .low .now) (omega (arith, c .before .before .before .before .before .before .before .before .before .before .before .before .pre .0 .low, c .before .before .before .before .before .before .before .before .before .before .before .before .pre .1 .low)))
+slice-aggregate-play-3 c =
+    let after-s : tie.After-s = search depth 0 in
+    let at-start : tie.Start = search depth 0 in
+    sym
+    (length-take-le (7 * at-start .args .h .low) (at-start .args .low .now)
+    (omega (arith, at-start .pre .0 .low, at-start .pre .1 .low)))
 
 slice-aggregate-play-4 : tie.Need-slice-aggregate-play-4
-slice-aggregate-play-4 c = sym (length-take-le (246 * c .before .before .before .before .before .before .before .before .before .before .before .before .before .args .h .low) (c .before .before .before .before .before .before .before .before .before .before .before .before .before .args .larea .now) (omega (arith, c .before .before .before .before .before .before .before .before .before .before .before .before .before .pre .0 .larea, c .before .before .before .before .before .before .before .before .before .before .before .before .before .pre .1 .low)))
+slice-aggregate-play-4 c =
+    let after-s : tie.After-s = search depth 0 in
+    let at-start : tie.Start = search depth 0 in
+    sym
+    (length-take-le (246 * at-start .args .h .low) (at-start .args .larea .now)
+    (omega (arith, at-start .pre .0 .larea, at-start .pre .1 .low)))
 
 play-requires : tie.Need-play-requires
-play-requires c κs = (c .before .before .before .before .before .before .before .before .before .before .before .before .before .before .pre .2, omega (arith, c .before .before .before .before .before .before .before .before .before .before .before .before .before .before .pre .0 .text))
+play-requires c κs =
+    let after-s : tie.After-s = search depth 0 in
+    let at-start : tie.Start = search depth 0 in
+    (at-start .pre .2, omega (arith, at-start .pre .0 .text))
 
 returns-2 : tie.Need-returns-2
 returns-2 c =
-    let a = c .before .before .before .before .before .before .before .before .before .before .before .before .before .before .before .before .before .before .before .before .before .before .before .before .before .before .args in
-    let w = c .before .before .before .before .before .before .before .before .before .before .before .before .before .before .before .before .before .before .before .before .before .before .before .before .before .before .pre .0 in
-    let f = c .before .before .before .before .before .before .before .before .before .before .before .before .before .before .before .before .before .before .before .before .before .before .before .before .before .before .pre .1 in
-    let k = c .before .before .before .before .before .before .before .before .before .before .before .play .kept .1 .1 .1 in
-    goes-on (a .call) (a .line .now) (a .h) (a .high .now) (a .harea .now) (a .low .now) (a .larea .now) (a .text .now) w f (not-false _ (c .before .before .before .before .before .before .before .before .before .before .before .before .before .before .before .before .before .if1 .left)) (c .before .before .before .before .before .before .before .before .before .before .before .play .ensures)
+    let after-low : tie.After-low = search depth 0 in
+    let after-play : tie.After-play = search depth 0 in
+    let else1 : tie.Else1 = search depth 0 in
+    let after-s : tie.After-s = search depth 0 in
+    let at-start : tie.Start = search depth 0 in
+    let a = at-start .args in
+    let w = at-start .pre .0 in
+    let f = at-start .pre .1 in
+    let k = after-play .play .kept .1 .1 .1 in
+    goes-on (a .call) (a .line .now) (a .h) (a .high .now) (a .harea .now) (a .low .now) (a .larea .now)
+    (a .text .now) w f (not-false _ (else1 .if1 .left)) (after-play .play .ensures)
     (k .0 ∙ length-take-le (7 * a .h .high) (a .high .now) (omega (arith, w .high, f .high)))
     (k .1 .0 ∙ length-take-le (246 * a .h .high) (a .harea .now) (omega (arith, w .harea, f .high)))
     (k .1 .1 .0 ∙ length-take-le (7 * a .h .low) (a .low .now) (omega (arith, w .low, f .low)))

@@ -12,20 +12,71 @@ use Rattle.play.specs.Play.{frameBy}
 use Rattle.play.proofs.Lines.{take-near}
 
 slice-aggregate-frame : tie.Need-slice-aggregate-frame
-slice-aggregate-frame c = sym (length-take-le (c .before .before .before .before .before .before .before .before .before .before .octets .result) (c .before .before .before .before .before .before .before .before .before .before .octets .last .1 .1 .0) (c .before .before .before .before .before .before .before .before .before .before .octets .ensures .1))
+slice-aggregate-frame c =
+    let after-octets2 : tie.After-octets2 = search depth 0 in
+    let after-octets : tie.After-octets = search depth 0 in
+    sym
+    (length-take-le
+    (after-octets .octets .result)
+    (after-octets .octets .last .1 .1 .0)
+    (after-octets .octets .ensures .1))
 
 slice-aggregate-frame-2 : tie.Need-slice-aggregate-frame-2
-slice-aggregate-frame-2 c = sym (length-take-le (c .before .before .before .before .before .before .before .before .octets2 .result) (c .before .before .before .before .before .before .before .before .octets2 .last .1 .1 .0) (c .before .before .before .before .before .before .before .before .octets2 .ensures .1))
+slice-aggregate-frame-2 c =
+    let after-second2 : tie.After-second2 = search depth 0 in
+    let after-octets2 : tie.After-octets2 = search depth 0 in
+    sym
+    (length-take-le (after-octets2 .octets2 .result)
+    (after-octets2 .octets2 .last .1 .1 .0)
+    (after-octets2 .octets2 .ensures .1))
 
 slice-aggregate-frame-3 : tie.Need-slice-aggregate-frame-3
-slice-aggregate-frame-3 c = sym (length-take-le (c .before .before .before .before .before .before .octets4 .result) (c .before .before .before .before .before .before .octets4 .last .1 .1 .0) (c .before .before .before .before .before .before .octets4 .ensures .1))
+slice-aggregate-frame-3 c =
+    let after-octets4 : tie.After-octets4 = search depth 0 in
+    sym
+    (length-take-le (after-octets4 .octets4 .result)
+    (after-octets4 .octets4 .last .1 .1 .0)
+    (after-octets4 .octets4 .ensures .1))
 
 frame-requires : tie.Need-frame-requires
-frame-requires c κs = (take-near (c .before .before .before .before .before .before .before .before .before .before .before .octets4 .result) 2048 (c .before .before .before .before .before .before .before .before .before .before .before .octets4 .last .1 .1 .0) (omega (arith, c .before .before .before .before .before .before .before .before .before .before .before .octets4 .kept .1 .1 .0, length-replicate {A = ℕ} 2048 0)), c .before .before .before .before .before .before .before .before .before .before .before .before .before .before .before .before .before .before .before .before .before .before .before .before .before .pre .1)
+frame-requires c κs =
+    let after-first3 : tie.After-first3 = search depth 0 in
+    let after-octets4 : tie.After-octets4 = search depth 0 in
+    let after-first : tie.After-first = search depth 0 in
+    let start : tie.Start = search depth 0 in (
+      take-near
+          (after-octets4 .octets4 .result)
+          2048
+          (after-octets4 .octets4 .last .1 .1
+          .0)
+          (omega (
+            arith,
+            after-octets4 .octets4 .kept
+                .1 .1 .0,
+            length-replicate {A = ℕ} 2048 0,
+          )),
+      start .pre .1,
+    )
 
 returns : tie.Need-returns
 unfolding frameBy
-returns c = rw (← c .before .before .before .before .before .before .before .before .before .before .before .before .before .before .before .before .before .before .before .room .ensures, ← c .before .before .before .before .before .before .before .before .before .before .before .before .before .before .before .before .before .before .before .before .clock .ensures, ← c .before .before .before .before .before .before .before .before .before .before .before .before .before .before .before .before .before .before .before .before .before .before .octets4 .ensures .0, ← c .before .before .before .before .before .before .before .before .before .before .before .before .before .before .before .before .before .before .before .before .before .before .before .before .before .octets2 .ensures .0, ← c .before .before .before .before .before .before .before .before .before .before .before .before .before .before .before .before .before .before .before .before .before .before .before .before .before .before .before .before .octets .ensures .0) (c .before .before .before .before .before .before .before .before .before .before .frame .ensures)
+returns c =
+    let after-harea : tie.After-harea = search depth 0 in
+    let after-frame : tie.After-frame = search depth 0 in
+    let after-second3 : tie.After-second3 = search depth 0 in
+    let after-room : tie.After-room = search depth 0 in
+    let after-clock : tie.After-clock = search depth 0 in
+    let after-octets4 : tie.After-octets4 = search depth 0 in
+    let after-octets2 : tie.After-octets2 = search depth 0 in
+    let after-octets : tie.After-octets = search depth 0 in
+    rw (
+      ← after-room .room .ensures,
+      ← after-clock .clock .ensures,
+      ← after-octets4 .octets4 .ensures .0,
+      ← after-octets2 .octets2
+          .ensures .0,
+      ← after-octets .octets .ensures .0,
+    ) (after-frame .frame .ensures)
 
 pub frame-spec : {M : Type 1} → statement M
 frame-spec =

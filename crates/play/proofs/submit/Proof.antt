@@ -8,11 +8,26 @@ use lib.Seq.{length-take-le}
 use Rattle.play.specs.Play.{submitBy}
 
 slice-aggregate-submit : tie.Need-slice-aggregate-submit
-slice-aggregate-submit c = sym (length-take-le (c .before .before .before .before .octets .result) (c .before .before .before .before .octets .last .1 .1 .0) (c .before .before .before .before .octets .ensures .1))
+slice-aggregate-submit c =
+    let after-octets : tie.After-octets = search depth 0 in
+    sym
+    (length-take-le (after-octets .octets .result)
+    (after-octets .octets .last .1 .1 .0)
+    (after-octets .octets .ensures .1))
 
 returns : tie.Need-returns
 unfolding submitBy
-returns c = rw (← c .before .before .before .before .before .before .before .before .before .before .before .before .before .before .before .before .before .before .queue .ensures, ← c .before .before .before .before .before .before .before .before .before .before .before .before .before .before .before .before .before .request .ensures, ← c .before .before .before .before .before .before .before .before .before .before .before .before .before .before .before .before .before .before .before .before .octets .ensures .0) (c .before .before .before .before .before .before .before .before .before .before .submit .ensures)
+returns c =
+    let after-harea : tie.After-harea = search depth 0 in
+    let after-submit : tie.After-submit = search depth 0 in
+    let after-request : tie.After-request = search depth 0 in
+    let after-queue : tie.After-queue = search depth 0 in
+    let after-octets : tie.After-octets = search depth 0 in
+    rw (
+      ← after-queue .queue .ensures,
+      ← after-request .request .ensures,
+      ← after-octets .octets .ensures .0,
+    ) (after-submit .submit .ensures)
 
 pub submit-spec : {M : Type 1} → statement M
 submit-spec =

@@ -18,7 +18,8 @@ digit-is c e = from (less c 48) (less 57 c) refl refl e
   where
     from : (a b : Bool) → less c 48 ≡ a → less 57 c ≡ b → pick a false (pick b false true) ≡ true → (48 ≤ c) × (c ≤ 57)
     from true b p q e = absurd (true≢false (sym e ∙ pick-true false (pick b false true) refl))
-    from false true p q e = absurd (true≢false (sym e ∙ pick-false false (pick true false true) refl ∙ pick-true false true refl))
+    from false true p q e =
+        absurd (true≢false (sym e ∙ pick-false false (pick true false true) refl ∙ pick-true false true refl))
     from false false p q e = (false-less c 48 p, false-less 57 c q)
 
 -- the value does not fall
@@ -31,30 +32,38 @@ value-grows v (c ∷ l) = omega (arith, value-grows (10 * v + (c - 48)) l)
 pub read-over : (most v : ℕ) (l : List ℕ) → most < v → noNumber ≡ readOn most v l
 unfolding readOn
 read-over most v l h =
-    rw (less-true {a = most} {b = valueOn v l} (omega (arith, value-grows v l)), pick-true noNumber (number (valueOn v l)) refl) (sym (either (allDigits l)))
+    rw (
+      less-true {a = most} {b = valueOn v l} (omega (arith, value-grows v l)),
+      pick-true noNumber (number (valueOn v l)) refl,
+    ) (sym (either (allDigits l)))
   where
     either : (b : Bool) → pick b noNumber noNumber ≡ noNumber
     either true = pick-true noNumber noNumber refl
     either false = pick-false noNumber noNumber refl
 
 -- ---- one character on
-pub read-more : (s : List ℕ) (i most v : ℕ) → i < length s → digit (getD s i 0) ≡ true → readOn most (10 * v + (getD s i 0 - 48)) (drop (i + 1) s) ≡ readOn most v (drop i s)
+pub read-more : (s : List ℕ) (i most v : ℕ) → i < length s → digit (getD s i 0) ≡ true
+    → readOn most (10 * v + (getD s i 0 - 48)) (drop (i + 1) s) ≡ readOn most v (drop i s)
 unfolding readOn allDigits valueOn
 read-more s i most v h e =
     rw (left-cons s i h, said-true refl e, pick-true (allDigits (drop (i + 1) s)) false refl)
 
-pub read-not : (s : List ℕ) (i most v : ℕ) → i < length s → digit (getD s i 0) ≡ false → noNumber ≡ readOn most v (drop i s)
+pub read-not : (s : List ℕ) (i most v : ℕ) → i < length s → digit (getD s i 0) ≡ false
+    → noNumber ≡ readOn most v (drop i s)
 unfolding readOn allDigits valueOn
 read-not s i most v h e =
-    rw (left-cons s i h, said-false refl e, pick-false (allDigits (drop (i + 1) s)) false refl) (sym (pick-false _ noNumber refl))
+    rw (left-cons s i h, said-false refl e, pick-false (allDigits (drop (i + 1) s)) false refl)
+    (sym (pick-false _ noNumber refl))
 
 pub read-last : (s : List ℕ) (i most v : ℕ) → length s ≤ i → v ≤ most → number v ≡ readOn most v (drop i s)
 unfolding readOn allDigits valueOn
 read-last s i most v h g =
-    rw (drop-of-length-le s h, pick-true (pick (less most v) noNumber (number v)) noNumber refl, less-false g) (sym (pick-false noNumber (number v) refl))
+    rw (drop-of-length-le s h, pick-true (pick (less most v) noNumber (number v)) noNumber refl, less-false g)
+    (sym (pick-false noNumber (number v) refl))
 
 -- one character on, to a value over the greatest
-pub read-past : (s : List ℕ) (i most v w : ℕ) → i < length s → digit (getD s i 0) ≡ true → w ≡ 10 * v + (getD s i 0 - 48) → most < w → noNumber ≡ readOn most v (drop i s)
+pub read-past : (s : List ℕ) (i most v w : ℕ) → i < length s → digit (getD s i 0) ≡ true
+    → w ≡ 10 * v + (getD s i 0 - 48) → most < w → noNumber ≡ readOn most v (drop i s)
 read-past s i most v w h e f g =
     read-over most _ (drop (i + 1) s) (rw (← f) g) ∙ read-more s i most v h e
 
@@ -77,7 +86,8 @@ read-most most v l = from (allDigits l) (less most (valueOn v l)) refl
     from : (a b : Bool) → less most (valueOn v l) ≡ b → pick a (pick b noNumber x) noNumber .value ≤ most
     from true true e = rw (pick-true (pick true noNumber x) noNumber refl, pick-true noNumber x refl) (none-most most)
     from true false e =
-        rw (pick-true (pick false noNumber x) noNumber refl, pick-false noNumber x refl) (number-most most (valueOn v l) (false-less most (valueOn v l) e))
+        rw (pick-true (pick false noNumber x) noNumber refl, pick-false noNumber x refl)
+        (number-most most (valueOn v l) (false-less most (valueOn v l) e))
     from false b e = rw (pick-false (pick b noNumber x) noNumber refl) (none-most most)
 
 pub decimal-most : (l : List ℕ) (most : ℕ) → decimal l most .value ≤ most

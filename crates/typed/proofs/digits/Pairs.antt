@@ -26,7 +26,8 @@ dash-one (c ∷ []) e = refl
 dash-one (c ∷ (d ∷ l)) e = absurd (omega arith)
 
 -- ---- all hex digits, one character on
-pub hex-more : (s : List ℕ) (i : ℕ) → i < length s → nibble (getD s i 0) ≤ 15 → allHex (drop (i + 1) s) ≡ allHex (drop i s)
+pub hex-more : (s : List ℕ) (i : ℕ) → i < length s → nibble (getD s i 0) ≤ 15
+    → allHex (drop (i + 1) s) ≡ allHex (drop i s)
 unfolding allHex
 hex-more s i h e = rw (left-cons s i h, less-false e) (sym (pick-false false (allHex (drop (i + 1) s)) refl))
 
@@ -39,7 +40,8 @@ unfolding allHex
 hex-last s i h = rw (drop-of-length-le s h)
 
 -- ---- what a chain that came to true says
-held-hex : (c : ℕ) (l : List ℕ) → pick (less 15 (nibble c)) false (allHex l) ≡ true → (less 15 (nibble c) ≡ false) × (allHex l ≡ true)
+held-hex : (c : ℕ) (l : List ℕ) → pick (less 15 (nibble c)) false (allHex l) ≡ true
+    → (less 15 (nibble c) ≡ false) × (allHex l ≡ true)
 held-hex c l e = from (less 15 (nibble c)) (allHex l) e
   where
     from : (a b : Bool) → pick a false b ≡ true → (a ≡ false) × (b ≡ true)
@@ -61,10 +63,14 @@ hex-each (c ∷ l) (suc i) e h = hex-each l i (held-hex c l e .1) (omega arith)
 pub octets-hex : (s : List ℕ) → isOctets s ≡ true → 2 ≤ length s → allHex s ≡ true
 unfolding isOctets said
 octets-hex s e h =
-    held-true (same (length s % 2) 0) (allHex s) (rw (← dash-length s (λ n. omega arith), pick-false true (pick (same (length s % 2) 0) (allHex s) false) refl) at e)
+    held-true (same (length s % 2) 0) (allHex s)
+    (rw (← dash-length s (λ n. omega arith), pick-false true (pick (same (length s % 2) 0) (allHex s) false) refl)
+    at e)
 
 -- ---- the octets of two hex digits more
-pub octets-more : (s : List ℕ) (k : ℕ) → k < length s / 2 → octets (drop (2 * k) s) ≡ (16 * nibble (getD s (2 * k) 0) + nibble (getD s (2 * k + 1) 0)) ∷ octets (drop (2 * (k + 1)) s)
+pub octets-more : (s : List ℕ) (k : ℕ) → k < length s / 2
+    → octets (drop (2 * k) s)
+    ≡ (16 * nibble (getD s (2 * k) 0) + nibble (getD s (2 * k + 1) 0)) ∷ octets (drop (2 * (k + 1)) s)
 unfolding octets
 octets-more s k h =
     rw (left-cons s (2 * k) (omega arith), left-cons s (2 * k + 1) (omega arith), two-on k)
@@ -83,9 +89,11 @@ octets-last s k h = octets-few (drop (2 * k) s) (simp length-drop (omega arith))
 
 -- ---- one octet more laid
 pub laid-set : (l : List ℕ) (i x : ℕ) (u : List ℕ) → i < length l → laid (set l i x) (i + 1) u ≡ laid l i (x ∷ u)
-laid-set l i x u h = laid-behind l (set l i x) i (i + 1) (x ∷ []) u (omega arith) refl (laid-sets l i (x ∷ []) (omega arith))
+laid-set l i x u h =
+    laid-behind l (set l i x) i (i + 1) (x ∷ []) u (omega arith) refl (laid-sets l i (x ∷ []) (omega arith))
 
-pub laid-two : (l : List ℕ) (i x y : ℕ) (u : List ℕ) → i + 2 ≤ length l → laid (set (set l i x) (i + 1) y) (i + 2) u ≡ laid l i (x ∷ (y ∷ u))
+pub laid-two : (l : List ℕ) (i x y : ℕ) (u : List ℕ) → i + 2 ≤ length l
+    → laid (set (set l i x) (i + 1) y) (i + 2) u ≡ laid l i (x ∷ (y ∷ u))
 laid-two l i x y u h =
     let e : length (set l i x) ≡ length l = length-set l i x in
     rw (one-on i) at (laid-set (set l i x) (i + 1) y u (omega arith)) ∙ laid-set l i x (y ∷ u) (omega arith)
@@ -94,7 +102,8 @@ laid-two l i x y u h =
     one-on n = omega arith
 
 -- ---- the hex digits of an octet more
-pub digits-more : (x : List ℕ) (i : ℕ) → i < length x → hexOf (drop i x) ≡ glyph (getD x i 0 / 16) ∷ (glyph (getD x i 0 % 16) ∷ hexOf (drop (i + 1) x))
+pub digits-more : (x : List ℕ) (i : ℕ) → i < length x
+    → hexOf (drop i x) ≡ glyph (getD x i 0 / 16) ∷ (glyph (getD x i 0 % 16) ∷ hexOf (drop (i + 1) x))
 unfolding hexOf
 digits-more x i h = rw (left-cons x i h)
 

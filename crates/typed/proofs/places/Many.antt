@@ -9,7 +9,8 @@ use Rattle.typed.specs.Words.{word}
 use Rattle.typed.specs.Digits.{decimal}
 use Rattle.typed.specs.Places.{numbers}
 
-pub numbers-more : (l : List ℕ) (k n most : ℕ) → (n ≡ 0 → ⊥) → decimal (word l k) most .good ≡ true → numbers l (k + 1) (n - 1) most ≡ numbers l k n most
+pub numbers-more : (l : List ℕ) (k n most : ℕ) → (n ≡ 0 → ⊥) → decimal (word l k) most .good ≡ true
+    → numbers l (k + 1) (n - 1) most ≡ numbers l k n most
 unfolding numbers
 numbers-more l k zero most h e = absurd (h refl)
 numbers-more l k (suc n) most h e =
@@ -18,7 +19,8 @@ numbers-more l k (suc n) most h e =
     one-less : (m : ℕ) → suc m - 1 ≡ m
     one-less m = omega arith
 
-pub numbers-not : (l : List ℕ) (k n most : ℕ) → (n ≡ 0 → ⊥) → decimal (word l k) most .good ≡ false → false ≡ numbers l k n most
+pub numbers-not : (l : List ℕ) (k n most : ℕ) → (n ≡ 0 → ⊥) → decimal (word l k) most .good ≡ false
+    → false ≡ numbers l k n most
 unfolding numbers
 numbers-not l k zero most h e = absurd (h refl)
 numbers-not l k (suc n) most h e = sym (pick-false _ _ (said-false refl e))

@@ -26,7 +26,8 @@ begins-more l i h e = rw (left-cons l i h, same-true e, pick-true (suc (spaces (
 
 pub begins-here : (l : List ℕ) (i : ℕ) → i < length l → (getD l i 0 ≡ SPACE → ⊥) → i ≡ begins l i
 unfolding begins spaces
-begins-here l i h e = rw (left-cons l i h, same-false e, pick-false (suc (spaces (drop (i + 1) l))) 0 refl) (omega arith)
+begins-here l i h e =
+    rw (left-cons l i h, same-false e, pick-false (suc (spaces (drop (i + 1) l))) 0 refl) (omega arith)
 
 pub begins-last : (l : List ℕ) (i : ℕ) → length l ≤ i → i ≡ begins l i
 unfolding begins spaces
@@ -69,15 +70,19 @@ unfolding wordsBehind
 behind-last l i space h = rw (drop-of-length-le l h)
 
 -- ---- whether two words are the same
-pub equal-more : (l m : List ℕ) (i : ℕ) → i < length l → i < length m → getD l i 0 ≡ getD m i 0 → equal (drop (i + 1) l) (drop (i + 1) m) ≡ equal (drop i l) (drop i m)
+pub equal-more : (l m : List ℕ) (i : ℕ) → i < length l → i < length m → getD l i 0 ≡ getD m i 0
+    → equal (drop (i + 1) l) (drop (i + 1) m) ≡ equal (drop i l) (drop i m)
 unfolding equal
 equal-more l m i h g e =
-    rw (left-cons l i h, left-cons m i g, same-true e) (sym (pick-true (equal (drop (i + 1) l) (drop (i + 1) m)) false refl))
+    rw (left-cons l i h, left-cons m i g, same-true e)
+    (sym (pick-true (equal (drop (i + 1) l) (drop (i + 1) m)) false refl))
 
-pub equal-not : (l m : List ℕ) (i : ℕ) → i < length l → i < length m → (getD l i 0 ≡ getD m i 0 → ⊥) → false ≡ equal (drop i l) (drop i m)
+pub equal-not : (l m : List ℕ) (i : ℕ) → i < length l → i < length m → (getD l i 0 ≡ getD m i 0 → ⊥)
+    → false ≡ equal (drop i l) (drop i m)
 unfolding equal
 equal-not l m i h g e =
-    rw (left-cons l i h, left-cons m i g, same-false e) (sym (pick-false (equal (drop (i + 1) l) (drop (i + 1) m)) false refl))
+    rw (left-cons l i h, left-cons m i g, same-false e)
+    (sym (pick-false (equal (drop (i + 1) l) (drop (i + 1) m)) false refl))
 
 pub equal-last : (l m : List ℕ) (i : ℕ) → length l ≤ i → length m ≤ i → true ≡ equal (drop i l) (drop i m)
 unfolding equal

@@ -6,9 +6,11 @@ use Rattle.typed.specs.Words.{spaces, letters, begins, ends, ahead, beginOf, be
 use Rattle.typed.specs.Digits.{digit, allDigits, valueOn, noNumber, number, readOn, decimal, nibble, allHex, dash}
 use Rattle.typed.specs.Digits.{isOctets}
 use Rattle.typed.specs.Lists.{entry, listed, closing, listOn, list}
-use Rattle.typed.specs.Places.{either, queue, room, service, access, named, numbers, isMasters, isPoints}
+use Rattle.typed.specs.Places.{either, queue, room, unserved, service, access, named, numbers, isMasters}
+use Rattle.typed.specs.Places.{isPoints}
 use Rattle.typed_call.specs.declared.script.Call.the-variants.{Unknown, Start, Submit, Frame, Slot, Collect}
-use Rattle.typed_call.specs.Script.{isStart, isSubmit, isFrame, isClocked, isCollect, callOf}
+use Rattle.typed_call.specs.Script.{isSite, isStart, isPointed, isRequest, isSubmit, isHeard, isFrame}
+use Rattle.typed_call.specs.Script.{isClocked, isCollect, plainOf, clockedOf, callOf}
 
 -- in turn:
 -- "start 20 0 20 400 1 10000 1 2 2,5 none,60,62 4 4"
@@ -21,15 +23,29 @@ use Rattle.typed_call.specs.Script.{isStart, isSubmit, isFrame, isClocke
 -- "slot 4294967296"
 -- "start 20 0 20 400 1 10000 1 2 2,127 none 4 4"
 -- "   "
-pub lines : (callOf (115 ∷ (116 ∷ (97 ∷ (114 ∷ (116 ∷ (32 ∷ (50 ∷ (48 ∷ (32 ∷ (48 ∷ (32 ∷ (50 ∷ (48 ∷ (32 ∷ (52 ∷ (48 ∷ (48 ∷ (32 ∷ (49 ∷ (32 ∷ (49 ∷ (48 ∷ (48 ∷ (48 ∷ (48 ∷ (32 ∷ (49 ∷ (32 ∷ (50 ∷ (32 ∷ (50 ∷ (44 ∷ (53 ∷ (32 ∷ (110 ∷ (111 ∷ (110 ∷ (101 ∷ (44 ∷ (54 ∷ (48 ∷ (44 ∷ (54 ∷ (50 ∷ (32 ∷ (52 ∷ (32 ∷ (52 ∷ [])))))))))))))))))))))))))))))))))))))))))))))))) ≡ Start)
-    × (callOf (115 ∷ (117 ∷ (98 ∷ (109 ∷ (105 ∷ (116 ∷ (32 ∷ (104 ∷ (105 ∷ (103 ∷ (104 ∷ (32 ∷ (115 ∷ (114 ∷ (100 ∷ (32 ∷ (55 ∷ (32 ∷ (45 ∷ (32 ∷ (45 ∷ (32 ∷ (45 ∷ []))))))))))))))))))))))) ≡ Submit)
-    × (callOf (102 ∷ (114 ∷ (97 ∷ (109 ∷ (101 ∷ (32 ∷ (49 ∷ (48 ∷ (48 ∷ (32 ∷ (48 ∷ (32 ∷ (45 ∷ (32 ∷ (45 ∷ (32 ∷ (68 ∷ (67 ∷ (48 ∷ (50 ∷ (48 ∷ (53 ∷ [])))))))))))))))))))))) ≡ Frame)
+pub lines : (callOf (115 ∷ (116 ∷ (97 ∷ (114 ∷ (116 ∷ (32 ∷ (50 ∷ (48 ∷ (32 ∷ (48 ∷ (32 ∷ (50 ∷ (48 ∷ (32 ∷ (52 ∷
+    (48 ∷ (48 ∷ (32 ∷ (49 ∷ (32 ∷ (49 ∷ (48 ∷ (48 ∷ (48 ∷ (48 ∷ (32 ∷ (49 ∷ (32 ∷ (50 ∷ (32 ∷ (50 ∷ (44 ∷ (53 ∷
+    (32 ∷ (110 ∷ (111 ∷ (110 ∷ (101 ∷ (44 ∷ (54 ∷ (48 ∷ (44 ∷ (54 ∷ (50 ∷ (32 ∷ (52 ∷ (32 ∷ (52 ∷
+    [])))))))))))))))))))))))))))))))))))))))))))))))) ≡ Start)
+    × (callOf (115 ∷ (117 ∷ (98 ∷ (109 ∷ (105 ∷ (116 ∷ (32 ∷ (104 ∷ (105 ∷ (103 ∷ (104 ∷ (32 ∷ (115 ∷ (114 ∷ (100 ∷
+    (32 ∷ (55 ∷ (32 ∷ (45 ∷ (32 ∷ (45 ∷ (32 ∷ (45 ∷ []))))))))))))))))))))))) ≡ Submit)
+    × (callOf (102 ∷ (114 ∷ (97 ∷ (109 ∷ (101 ∷ (32 ∷ (49 ∷ (48 ∷ (48 ∷ (32 ∷ (48 ∷ (32 ∷ (45 ∷ (32 ∷ (45 ∷ (32 ∷
+    (68 ∷ (67 ∷ (48 ∷ (50 ∷ (48 ∷ (53 ∷ [])))))))))))))))))))))) ≡ Frame)
     × (callOf (115 ∷ (108 ∷ (111 ∷ (116 ∷ (32 ∷ (54 ∷ (48 ∷ (48 ∷ [])))))))) ≡ Slot)
-    × (callOf (32 ∷ (99 ∷ (111 ∷ (108 ∷ (108 ∷ (101 ∷ (99 ∷ (116 ∷ (32 ∷ (32 ∷ (104 ∷ (105 ∷ (103 ∷ (104 ∷ (32 ∷ []))))))))))))))) ≡ Collect)
-    × (callOf (102 ∷ (114 ∷ (97 ∷ (109 ∷ (101 ∷ (32 ∷ (49 ∷ (48 ∷ (48 ∷ (32 ∷ (48 ∷ (32 ∷ (45 ∷ (32 ∷ (45 ∷ (32 ∷ (68 ∷ (67 ∷ (48 ∷ (50 ∷ (48 ∷ []))))))))))))))))))))) ≡ Unknown)
+    × (callOf (32 ∷ (99 ∷ (111 ∷ (108 ∷ (108 ∷ (101 ∷ (99 ∷ (116 ∷ (32 ∷ (32 ∷ (104 ∷ (105 ∷ (103 ∷ (104 ∷ (32 ∷
+    []))))))))))))))) ≡ Collect)
+    × (callOf (102 ∷ (114 ∷ (97 ∷ (109 ∷ (101 ∷ (32 ∷ (49 ∷ (48 ∷ (48 ∷ (32 ∷ (48 ∷ (32 ∷ (45 ∷ (32 ∷ (45 ∷ (32 ∷
+    (68 ∷ (67 ∷ (48 ∷ (50 ∷ (48 ∷ []))))))))))))))))))))) ≡ Unknown)
     × (callOf (115 ∷ (104 ∷ (111 ∷ (119 ∷ (32 ∷ (49 ∷ [])))))) ≡ Unknown)
-    × (callOf (115 ∷ (108 ∷ (111 ∷ (116 ∷ (32 ∷ (52 ∷ (50 ∷ (57 ∷ (52 ∷ (57 ∷ (54 ∷ (55 ∷ (50 ∷ (57 ∷ (54 ∷ []))))))))))))))) ≡ Unknown)
-    × (callOf (115 ∷ (116 ∷ (97 ∷ (114 ∷ (116 ∷ (32 ∷ (50 ∷ (48 ∷ (32 ∷ (48 ∷ (32 ∷ (50 ∷ (48 ∷ (32 ∷ (52 ∷ (48 ∷ (48 ∷ (32 ∷ (49 ∷ (32 ∷ (49 ∷ (48 ∷ (48 ∷ (48 ∷ (48 ∷ (32 ∷ (49 ∷ (32 ∷ (50 ∷ (32 ∷ (50 ∷ (44 ∷ (49 ∷ (50 ∷ (55 ∷ (32 ∷ (110 ∷ (111 ∷ (110 ∷ (101 ∷ (32 ∷ (52 ∷ (32 ∷ (52 ∷ [])))))))))))))))))))))))))))))))))))))))))))) ≡ Unknown)
+    × (callOf (115 ∷ (108 ∷ (111 ∷ (116 ∷ (32 ∷ (52 ∷ (50 ∷ (57 ∷ (52 ∷ (57 ∷ (54 ∷ (55 ∷ (50 ∷ (57 ∷ (54 ∷
+    []))))))))))))))) ≡ Unknown)
+    × (callOf (115 ∷ (116 ∷ (97 ∷ (114 ∷ (116 ∷ (32 ∷ (50 ∷ (48 ∷ (32 ∷ (48 ∷ (32 ∷ (50 ∷ (48 ∷ (32 ∷ (52 ∷ (48 ∷
+    (48 ∷ (32 ∷ (49 ∷ (32 ∷ (49 ∷ (48 ∷ (48 ∷ (48 ∷ (48 ∷ (32 ∷ (49 ∷ (32 ∷ (50 ∷ (32 ∷ (50 ∷ (44 ∷ (49 ∷ (50 ∷
+    (55 ∷ (32 ∷ (110 ∷ (111 ∷ (110 ∷ (101 ∷ (32 ∷ (52 ∷ (32 ∷ (52 ∷
+    [])))))))))))))))))))))))))))))))))))))))))))) ≡ Unknown)
     × (callOf (32 ∷ (32 ∷ (32 ∷ []))) ≡ Unknown)
-unfolding pick less same said spaces letters begins ends ahead beginOf begun wordsBehind word equal digit allDigits valueOn noNumber number readOn decimal nibble allHex dash isOctets entry listed closing listOn list either queue room service access named numbers isMasters isPoints isStart isSubmit isFrame isClocked isCollect callOf
+unfolding pick less same said spaces letters begins ends ahead beginOf begun wordsBehind word equal digit
+    allDigits valueOn noNumber number readOn decimal nibble allHex dash isOctets entry listed closing listOn list
+    either queue room unserved service access named numbers isMasters isPoints isSite isStart isPointed isRequest
+    isSubmit isHeard isFrame isClocked isCollect plainOf clockedOf callOf
 lines = (refl, refl, refl, refl, refl, refl, refl, refl, refl, refl)

@@ -17,16 +17,29 @@ abbrev μ-loop : tie.MeasureT-loop
 
 returns : tie.Need-returns Inv-loop μ-loop
 returns c =
-    let l = c .before .before .before .before .loop in
-    hex-not (c .before .before .before .before .before .before .args .s .now) (l .i) (c .before .before .before .loop-test .taken) (omega (arith, c .before .nibble .ensures)) ∙ l .inv
+    let after-nibble : tie.After-nibble Inv-loop μ-loop = search depth 0 in
+    let in-loop : tie.In-loop Inv-loop μ-loop = search depth 0 in
+    let at-loop : tie.At-loop Inv-loop μ-loop = search depth 0 in
+    let start : tie.Start Inv-loop μ-loop = search depth 0 in
+    let l = at-loop .loop in
+    hex-not (start .args .s .now) (l .i) (in-loop .loop-test .taken) (omega (arith, after-nibble .nibble .ensures)) ∙
+    l .inv
 
 loop-again : tie.Need-loop-again Inv-loop μ-loop
 loop-again c =
-    let l = c .before .before .before .before .loop in
-    hex-more (c .before .before .before .before .before .before .args .s .now) (l .i) (c .before .before .before .loop-test .taken) (omega (arith, c .before .nibble .ensures)) ∙ l .inv
+    let after-nibble : tie.After-nibble Inv-loop μ-loop = search depth 0 in
+    let in-loop : tie.In-loop Inv-loop μ-loop = search depth 0 in
+    let at-loop : tie.At-loop Inv-loop μ-loop = search depth 0 in
+    let start : tie.Start Inv-loop μ-loop = search depth 0 in
+    let l = at-loop .loop in
+    hex-more (start .args .s .now) (l .i) (in-loop .loop-test .taken) (omega (arith, after-nibble .nibble .ensures)) ∙
+    l .inv
 
 returns-2 : tie.Need-returns-2 Inv-loop μ-loop
-returns-2 c = let l = c .before .loop in hex-last (c .before .before .before .args .s .now) (l .i) (c .loop-test .left) ∙ l .inv
+returns-2 c =
+    let at-loop : tie.At-loop Inv-loop μ-loop = search depth 0 in
+    let start : tie.Start Inv-loop μ-loop = search depth 0 in
+    let l = at-loop .loop in hex-last (start .args .s .now) (l .i) (c .loop-test .left) ∙ l .inv
 
 pub all-hex-spec : {M : Type 1} → statement M
 all-hex-spec =

@@ -8,11 +8,18 @@ use Rattle.typed.proofs.digits.dash.Statement.{statement}
 use Rattle.typed.proofs.digits.dash.Tie as tie
 
 returns-2 : tie.Need-returns-2
-returns-2 c = sym (dash-one (c .before .before .before .args .s .now) (c .before .before .if1 .left) ∙ same-true (c .if2 .taken))
+returns-2 c =
+    let else1 : tie.Else1 = search depth 0 in
+    let start : tie.Start = search depth 0 in
+    sym (dash-one (start .args .s .now) (else1 .if1 .left) ∙ same-true (c .if2 .taken))
 
 returns-3 : tie.Need-returns-3
-returns-3 c = sym (dash-one (c .before .before .before .args .s .now) (c .before .before .if1 .left) ∙ same-false (c .if2 .left))
+returns-3 c =
+    let else1 : tie.Else1 = search depth 0 in
+    let start : tie.Start = search depth 0 in
+    sym (dash-one (start .args .s .now) (else1 .if1 .left) ∙ same-false (c .if2 .left))
 
 pub dash-spec : {M : Type 1} → statement M
 dash-spec =
-    tie.close (tie.spec (λ c. dash-length (c .before .args .s .now) (c .if1 .taken)) (λ c. omega arith) returns-2 returns-3)
+    tie.close
+    (tie.spec (λ c. dash-length (c .before .args .s .now) (c .if1 .taken)) (λ c. omega arith) returns-2 returns-3)

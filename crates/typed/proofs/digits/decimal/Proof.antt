@@ -1,5 +1,5 @@
--- `typed::digits::decimal` meets its contract. The loop's invariant: the rest behind the value so far is the number of the word.
--- Assumes nothing.
+-- `typed::digits::decimal` meets its contract. The loop's invariant: the rest behind the value so far is the number
+-- of the word. Assumes nothing.
 use Prim.Native.Nat.{_-_, _≤_}
 use mathlib.Core.Path.{_≡_, refl, sym, _∙_}
 use native.Mathlib.Omega.{arith}
@@ -19,7 +19,9 @@ abbrev μ-loop : tie.MeasureT-loop
 
 returns : tie.Need-returns Inv-loop μ-loop
 unfolding decimal
-returns c = if-same _ (c .before .if1 .taken) (c .none .ensures)
+returns c =
+    let then1 : tie.Then1 Inv-loop μ-loop = search depth 0 in
+    if-same _ (then1 .if1 .taken) (c .none .ensures)
 
 loop-holds : tie.Need-loop-holds Inv-loop μ-loop
 unfolding decimal
@@ -27,32 +29,59 @@ loop-holds c = (omega arith, unless-same _ (c .if1 .left) refl)
 
 returns-2 : tie.Need-returns-2 Inv-loop μ-loop
 returns-2 c =
-    let l = c .before .before .before .before .before .loop in
-    let a = c .before .before .before .before .before .before .before .before .args in
-    c .none2 .ensures ∙ read-not (a .s .now) (l .i) (a .most) (l .v) (c .before .before .before .before .loop-test .taken) (sym (c .before .before .digit .ensures) ∙ not-true _ (c .before .if2 .taken)) ∙ l .inv .1
+    let then2 : tie.Then2 Inv-loop μ-loop = search depth 0 in
+    let after-digit : tie.After-digit Inv-loop μ-loop = search depth 0 in
+    let in-loop : tie.In-loop Inv-loop μ-loop = search depth 0 in
+    let at-loop : tie.At-loop Inv-loop μ-loop = search depth 0 in
+    let start : tie.Start Inv-loop μ-loop = search depth 0 in
+    let l = at-loop .loop in
+    let a = start .args in
+    c .none2 .ensures ∙ read-not (a .s .now) (l .i) (a .most) (l .v) (in-loop .loop-test .taken)
+    (sym (after-digit .digit .ensures) ∙ not-true _ (then2 .if2 .taken)) ∙ l .inv .1
 
 behind-requires : tie.Need-behind-requires Inv-loop μ-loop
-behind-requires c κs = (omega arith, sym (c .before .digit .ensures) ∙ not-false _ (c .if2 .left))
+behind-requires c κs =
+    let after-digit : tie.After-digit Inv-loop μ-loop = search depth 0 in
+    (omega arith, sym (after-digit .digit .ensures) ∙ not-false _ (c .if2 .left))
 
 returns-3 : tie.Need-returns-3 Inv-loop μ-loop
 returns-3 c =
-    let l = c .before .before .before .before .before .before .before .loop in
-    let a = c .before .before .before .before .before .before .before .before .before .before .args in
-    c .none3 .ensures ∙ read-past (a .s .now) (l .i) (a .most) (l .v) _ (c .before .before .before .before .before .before .loop-test .taken) (sym (c .before .before .before .before .digit .ensures) ∙ not-false _ (c .before .before .before .if2 .left)) (c .before .before .behind .ensures .0) (c .before .if3 .taken) ∙ l .inv .1
+    let then3 : tie.Then3 Inv-loop μ-loop = search depth 0 in
+    let after-behind : tie.After-behind Inv-loop μ-loop = search depth 0 in
+    let else2 : tie.Else2 Inv-loop μ-loop = search depth 0 in
+    let after-digit : tie.After-digit Inv-loop μ-loop = search depth 0 in
+    let in-loop : tie.In-loop Inv-loop μ-loop = search depth 0 in
+    let at-loop : tie.At-loop Inv-loop μ-loop = search depth 0 in
+    let start : tie.Start Inv-loop μ-loop = search depth 0 in
+    let l = at-loop .loop in
+    let a = start .args in
+    c .none3 .ensures ∙ read-past (a .s .now) (l .i) (a .most) (l .v) _ (in-loop .loop-test .taken)
+    (sym (after-digit .digit .ensures) ∙ not-false _ (else2 .if2 .left)) (after-behind .behind .ensures .0)
+    (then3 .if3 .taken) ∙ l .inv .1
 
 loop-again : tie.Need-loop-again Inv-loop μ-loop
 loop-again c =
-    let l = c .before .before .before .before .before .before .loop in
-    let a = c .before .before .before .before .before .before .before .before .before .args in (
+    let after-behind : tie.After-behind Inv-loop μ-loop = search depth 0 in
+    let else2 : tie.Else2 Inv-loop μ-loop = search depth 0 in
+    let after-digit : tie.After-digit Inv-loop μ-loop = search depth 0 in
+    let in-loop : tie.In-loop Inv-loop μ-loop = search depth 0 in
+    let at-loop : tie.At-loop Inv-loop μ-loop = search depth 0 in
+    let start : tie.Start Inv-loop μ-loop = search depth 0 in
+    let l = at-loop .loop in
+    let a = start .args in (
       c .if3 .left,
-      rw (c .before .behind .ensures .0) (read-more (a .s .now) (l .i) (a .most) (l .v) (c .before .before .before .before .before .loop-test .taken) (sym (c .before .before .before .digit .ensures) ∙ not-false _ (c .before .before .if2 .left))) ∙ l .inv .1,
+      rw (after-behind .behind .ensures .0)
+          (read-more (a .s .now) (l .i) (a .most) (l .v) (in-loop .loop-test .taken)
+          (sym (after-digit .digit .ensures) ∙ not-false _ (else2 .if2 .left))) ∙ l .inv .1,
     )
 
 returns-4 : tie.Need-returns-4 Inv-loop μ-loop
 unfolding number
 returns-4 c =
-    let l = c .before .loop in
-    let a = c .before .before .before .before .args in
+    let at-loop : tie.At-loop Inv-loop μ-loop = search depth 0 in
+    let start : tie.Start Inv-loop μ-loop = search depth 0 in
+    let l = at-loop .loop in
+    let a = start .args in
     read-last (a .s .now) (l .i) (a .most) (l .v) (c .loop-test .left) (l .inv .0) ∙ l .inv .1
 
 pub decimal-spec : {M : Type 1} → statement M

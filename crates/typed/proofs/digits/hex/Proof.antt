@@ -11,26 +11,39 @@ use Rattle.typed.proofs.digits.hex.Tie as tie
 returns : tie.Need-returns
 unfolding hex hexLeft
 returns c =
-    let e = c .before .is-octets .ensures in
+    let after-is-octets : tie.After-is-octets = search depth 0 in
+    let e = after-is-octets .is-octets .ensures in
     (denied-true _ e (c .if1 .taken) cc, denied-true _ e (c .if1 .taken) refl)
 
 returns-2 : tie.Need-returns-2
 unfolding hex hexLeft
 returns-2 c =
-    let e = c .before .before .is-octets .ensures in
-    let n = c .before .if1 .left in
+    let else1 : tie.Else1 = search depth 0 in
+    let after-is-octets : tie.After-is-octets = search depth 0 in
+    let e = after-is-octets .is-octets .ensures in
+    let n = else1 .if1 .left in
     (denied-false _ e n (if-less _ (c .if2 .taken) cc), denied-false _ e n (if-less _ (c .if2 .taken) refl))
 
 lay-octets-requires : tie.Need-lay-octets-requires
-lay-octets-requires c κs = (sym (c .before .before .before .is-octets .ensures) ∙ not-false _ (c .before .before .if1 .left), c .before .if2 .left)
+lay-octets-requires c κs =
+    let else2 : tie.Else2 = search depth 0 in
+    let else1 : tie.Else1 = search depth 0 in
+    let after-is-octets : tie.After-is-octets = search depth 0 in
+    (sym (after-is-octets .is-octets .ensures) ∙ not-false _ (else1 .if1 .left), else2 .if2 .left)
 
 returns-3 : tie.Need-returns-3
 unfolding hex hexLeft
 returns-3 c =
-    let e = c .before .before .before .before .before .before .is-octets .ensures in
-    let n = c .before .before .before .before .before .if1 .left in
-    let m = c .before .before .before .before .if2 .left in
-    (denied-false _ e n (unless-less _ m cc), denied-false _ e n (unless-less _ m (c .before .before .lay-octets .ensures)))
+    let after-lay-octets : tie.After-lay-octets = search depth 0 in
+    let else2 : tie.Else2 = search depth 0 in
+    let else1 : tie.Else1 = search depth 0 in
+    let after-is-octets : tie.After-is-octets = search depth 0 in
+    let e = after-is-octets .is-octets .ensures in
+    let n = else1 .if1 .left in
+    let m = else2 .if2 .left in (
+      denied-false _ e n (unless-less _ m cc),
+      denied-false _ e n (unless-less _ m (after-lay-octets .lay-octets .ensures)),
+    )
 
 pub hex-spec : {M : Type 1} → statement M
 hex-spec =

@@ -20,23 +20,29 @@ abbrev μ-loop : tie.MeasureT-loop
 
 octet-requires : tie.Need-octet-requires Inv-loop μ-loop
 octet-requires c κs =
-    let s = c .before .before .before .before .before .before .args .s .now in
-    let e = octets-hex s (c .before .before .before .before .before .before .pre .0) (omega arith) in
+    let start : tie.Start Inv-loop μ-loop = search depth 0 in
+    let s = start .args .s .now in
+    let e = octets-hex s (start .pre .0) (omega arith) in
     (hex-each s _ e (omega arith), hex-each s _ e (omega arith))
 
 loop-again : tie.Need-loop-again Inv-loop μ-loop
 loop-again c =
-    let l = c .before .before .before .before .loop in
-    let s = c .before .before .before .before .before .before .before .args .s .now in (
+    let at-loop : tie.At-loop Inv-loop μ-loop = search depth 0 in
+    let start : tie.Start Inv-loop μ-loop = search depth 0 in
+    let l = at-loop .loop in
+    let s = start .args .s .now in (
       omega arith,
       length-set (l .out) (l .k) _ ∙ l .inv .1,
-      laid-set (l .out) (l .k) _ _ (omega arith) ∙ rw (c .octet .ensures, ← octets-more s (l .k) (omega arith)) (l .inv .2),
+      laid-set (l .out) (l .k) _ _ (omega arith) ∙ rw (c .octet .ensures, ← octets-more s (l .k) (omega arith))
+          (l .inv .2),
     )
 
 returns : tie.Need-returns Inv-loop μ-loop
 returns c =
-    let l = c .before .loop in
-    let s = c .before .before .before .before .args .s .now in
+    let at-loop : tie.At-loop Inv-loop μ-loop = search depth 0 in
+    let start : tie.Start Inv-loop μ-loop = search depth 0 in
+    let l = at-loop .loop in
+    let s = start .args .s .now in
     sym (laid-nil (l .out) (l .k)) ∙ rw (octets-last s (l .k) (omega arith)) at (l .inv .2)
 
 pub lay-octets-spec : {M : Type 1} → statement M

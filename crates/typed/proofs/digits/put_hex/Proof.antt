@@ -13,26 +13,34 @@ use Rattle.typed.proofs.digits.put_hex.Tie as tie
 
 abbrev Inv-loop : tie.InvT-loop
 Inv-loop x out₀ at w₀ i₀ out w i =
-    (w ≡ at + 2 * i) × (i ≤ length x) × (length out ≡ length out₀) × (laid out w (hexOf (drop i x)) ≡ laid out₀ at (hexOf x))
+    (w ≡ at + 2 * i)
+    × (i ≤ length x) × (length out ≡ length out₀) × (laid out w (hexOf (drop i x)) ≡ laid out₀ at (hexOf x))
 
 abbrev μ-loop : tie.MeasureT-loop
 μ-loop x out₀ at w₀ i₀ out w i = length x - i
 
 loop-again : tie.Need-loop-again Inv-loop μ-loop
 loop-again c =
-    let l = c .before .before .before .before .before .loop in
-    let x = c .before .before .before .before .before .before .before .before .args .x .now in (
+    let after-first : tie.After-first Inv-loop μ-loop = search depth 0 in
+    let in-loop : tie.In-loop Inv-loop μ-loop = search depth 0 in
+    let at-loop : tie.At-loop Inv-loop μ-loop = search depth 0 in
+    let start : tie.Start Inv-loop μ-loop = search depth 0 in
+    let l = at-loop .loop in
+    let x = start .args .x .now in (
       omega arith,
       omega arith,
       simp length-set (l .inv .2),
       laid-two (l .out) (l .w) _ _ _ (omega arith)
-          ∙ rw (c .before .before .first .ensures, c .second .ensures, ← digits-more x (l .i) (c .before .before .before .before .loop-test .taken)) (l .inv .3),
+          ∙ rw (after-first .first .ensures, c .second .ensures, ← digits-more x (l .i) (in-loop .loop-test .taken))
+          (l .inv .3),
     )
 
 returns : tie.Need-returns Inv-loop μ-loop
 returns c =
-    let l = c .before .loop in
-    let x = c .before .before .before .before .args .x .now in
+    let at-loop : tie.At-loop Inv-loop μ-loop = search depth 0 in
+    let start : tie.Start Inv-loop μ-loop = search depth 0 in
+    let l = at-loop .loop in
+    let x = start .args .x .now in
     record {
       place = omega (arith, l .inv .0, l .inv .1, c .loop-test .left, digits-length x);
       left = sym (laid-nil (l .out) (l .w)) ∙ rw (digits-last x (l .i) (c .loop-test .left)) at (l .inv .3);

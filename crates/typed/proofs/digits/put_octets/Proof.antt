@@ -13,14 +13,22 @@ use Rattle.typed.proofs.digits.put_octets.Tie as tie
 returns : tie.Need-returns
 unfolding shown
 returns c =
-    let x = c .before .before .before .before .before .before .before .before .args .x .now in
-    rw (same-true (c .before .before .before .before .before .if1 .taken), pick-true (45 ∷ []) (hexOf x) refl) (lays-within _ (omega arith) (c .before .before .lay .ensures))
+    let after-lay : tie.After-lay = search depth 0 in
+    let then1 : tie.Then1 = search depth 0 in
+    let start : tie.Start = search depth 0 in
+    let x = start .args .x .now in
+    rw (same-true (then1 .if1 .taken), pick-true (45 ∷ []) (hexOf x) refl)
+    (lays-within _ (omega arith) (after-lay .lay .ensures))
 
 returns-2 : tie.Need-returns-2
 unfolding shown
 returns-2 c =
-    let x = c .before .before .before .before .before .before .before .args .x .now in
-    rw (same-false (c .before .before .before .before .if1 .left), pick-false (45 ∷ []) (hexOf x) refl) (lays-within _ (omega arith) (c .before .before .put-hex .ensures))
+    let after-put-hex : tie.After-put-hex = search depth 0 in
+    let else1 : tie.Else1 = search depth 0 in
+    let start : tie.Start = search depth 0 in
+    let x = start .args .x .now in
+    rw (same-false (else1 .if1 .left), pick-false (45 ∷ []) (hexOf x) refl)
+    (lays-within _ (omega arith) (after-put-hex .put-hex .ensures))
 
 pub put-octets-spec : {M : Type 1} → statement M
 put-octets-spec =

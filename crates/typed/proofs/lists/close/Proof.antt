@@ -14,19 +14,31 @@ use Rattle.typed.proofs.lists.close.Tie as tie
 
 slice-write-out : tie.Need-slice-write-out
 slice-write-out c =
-    let a = c .before .before .before .before .args in
-    omega (arith, ap (λ (n : Number). n .value) (c .before .entry .ensures), entry-most (a .points) (a .e .now), c .before .before .before .before .pre)
+    let after-entry : tie.After-entry = search depth 0 in
+    let start : tie.Start = search depth 0 in
+    let a = start .args in
+    omega (
+      arith,
+      ap (λ (n : Number). n .value) (after-entry .entry .ensures),
+      entry-most (a .points) (a .e .now),
+      start .pre,
+    )
 
 returns : tie.Need-returns
 unfolding closing
 returns c =
-    let a = c .before .before .before .before .args in
-    let n = c .before .entry .ensures in
-    asked-true _ (ap (λ (k : Number). k .good) n) (c .if1 .taken) (ap (λ (k : Number). listed true (set (a .out .now) (k .value) 1)) n)
+    let after-entry : tie.After-entry = search depth 0 in
+    let start : tie.Start = search depth 0 in
+    let a = start .args in
+    let n = after-entry .entry .ensures in
+    asked-true _ (ap (λ (k : Number). k .good) n) (c .if1 .taken)
+    (ap (λ (k : Number). listed true (set (a .out .now) (k .value) 1)) n)
 
 returns-2 : tie.Need-returns-2
 unfolding closing
-returns-2 c = asked-false _ (ap (λ (k : Number). k .good) (c .before .entry .ensures)) (c .if1 .left) refl
+returns-2 c =
+    let after-entry : tie.After-entry = search depth 0 in
+    asked-false _ (ap (λ (k : Number). k .good) (after-entry .entry .ensures)) (c .if1 .left) refl
 
 pub close-spec : {M : Type 1} → statement M
 close-spec =

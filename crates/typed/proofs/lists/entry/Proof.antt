@@ -8,15 +8,27 @@ use Rattle.typed.proofs.lists.entry.Tie as tie
 
 returns : tie.Need-returns
 unfolding entry
-returns c = flag-true _ (c .before .before .before .before .if1 .taken) (asked-true _ (c .before .before .equal .ensures) (c .before .if2 .taken) (c .valued .ensures))
+returns c =
+    let then2 : tie.Then2 = search depth 0 in
+    let after-equal : tie.After-equal = search depth 0 in
+    let then1 : tie.Then1 = search depth 0 in
+    flag-true _ (then1 .if1 .taken)
+    (asked-true _ (after-equal .equal .ensures) (then2 .if2 .taken) (c .valued .ensures))
 
 returns-2 : tie.Need-returns-2
 unfolding entry
-returns-2 c = flag-true _ (c .before .before .before .before .if1 .taken) (asked-false _ (c .before .before .equal .ensures) (c .before .if2 .left) (c .decimal .ensures))
+returns-2 c =
+    let else2 : tie.Else2 = search depth 0 in
+    let after-equal : tie.After-equal = search depth 0 in
+    let then1 : tie.Then1 = search depth 0 in
+    flag-true _ (then1 .if1 .taken)
+    (asked-false _ (after-equal .equal .ensures) (else2 .if2 .left) (c .decimal .ensures))
 
 returns-3 : tie.Need-returns-3
 unfolding entry
-returns-3 c = flag-false _ (c .before .if1 .left) (c .decimal2 .ensures)
+returns-3 c =
+    let else1 : tie.Else1 = search depth 0 in
+    flag-false _ (else1 .if1 .left) (c .decimal2 .ensures)
 
 pub entry-spec : {M : Type 1} → statement M
 entry-spec =

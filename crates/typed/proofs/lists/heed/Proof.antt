@@ -8,20 +8,33 @@ use Rattle.typed.proofs.lists.heed.Tie as tie
 
 returns : tie.Need-returns
 returns c =
-    let a = c .before .before .before .before .args in
-    (on-letter (a .points) (a .s .now) (a .from) (a .i) (a .out .now) (omega arith) (omega arith) (c .if1 .taken), omega arith)
+    let start : tie.Start = search depth 0 in
+    let a = start .args in (
+      on-letter (a .points) (a .s .now) (a .from) (a .i) (a .out .now) (omega arith) (omega arith) (c .if1 .taken),
+      omega arith,
+    )
 
 returns-2 : tie.Need-returns-2
 returns-2 c =
-    let a = c .before .before .before .before .before .before .before .before .before .before .args in (
-      on-comma (a .points) (a .s .now) _ (a .i) _ (a .out .now) _ (omega arith) (c .before .before .before .before .before .before .if1 .left) (c .if2 .taken) (rw (← c .before .before .before .before .before .part .ensures) (c .before .before .before .close .ensures)),
+    let after-close : tie.After-close = search depth 0 in
+    let after-part : tie.After-part = search depth 0 in
+    let else1 : tie.Else1 = search depth 0 in
+    let start : tie.Start = search depth 0 in
+    let a = start .args in (
+      on-comma (a .points) (a .s .now) _ (a .i) _ (a .out .now) _ (omega arith) (else1 .if1 .left) (c .if2 .taken)
+          (rw (← after-part .part .ensures) (after-close .close .ensures)),
       omega arith,
     )
 
 returns-3 : tie.Need-returns-3
 returns-3 c =
-    let a = c .before .before .before .before .before .before .before .before .before .before .args in (
-      on-bad (a .points) (a .s .now) _ (a .i) _ (a .from) (a .out .now) _ (omega arith) (c .before .before .before .before .before .before .if1 .left) (c .if2 .left) (rw (← c .before .before .before .before .before .part .ensures) (c .before .before .before .close .ensures)),
+    let after-close : tie.After-close = search depth 0 in
+    let after-part : tie.After-part = search depth 0 in
+    let else1 : tie.Else1 = search depth 0 in
+    let start : tie.Start = search depth 0 in
+    let a = start .args in (
+      on-bad (a .points) (a .s .now) _ (a .i) _ (a .from) (a .out .now) _ (omega arith) (else1 .if1 .left)
+          (c .if2 .left) (rw (← after-part .part .ensures) (after-close .close .ensures)),
       omega arith,
     )
 

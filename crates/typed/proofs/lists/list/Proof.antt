@@ -9,11 +9,17 @@ use Rattle.typed.proofs.lists.list.Tie as tie
 
 returns : tie.Need-returns
 unfolding list
-returns c = asked-true _ (c .before .dash .ensures) (c .if1 .taken) refl
+returns c =
+    let after-dash : tie.After-dash = search depth 0 in
+    asked-true _ (after-dash .dash .ensures) (c .if1 .taken) refl
 
 returns-2 : tie.Need-returns-2
 unfolding list
-returns-2 c = asked-false _ (c .before .before .before .before .before .dash .ensures) (c .before .before .before .before .if1 .left) (c .before .before .entries .ensures)
+returns-2 c =
+    let after-entries : tie.After-entries = search depth 0 in
+    let else1 : tie.Else1 = search depth 0 in
+    let after-dash : tie.After-dash = search depth 0 in
+    asked-false _ (after-dash .dash .ensures) (else1 .if1 .left) (after-entries .entries .ensures)
 
 pub list-spec : {M : Type 1} → statement M
 list-spec =

@@ -10,11 +10,17 @@ use Rattle.typed.proofs.places.named.Tie as tie
 returns : tie.Need-returns
 unfolding named said
 returns c =
-    if-same _ (sym (c .before .before .before .count .ensures) ∙ c .before .before .if1 .taken) (rw (c .before .word .ensures) at (c .equal .ensures))
+    let after-word : tie.After-word = search depth 0 in
+    let then1 : tie.Then1 = search depth 0 in
+    let after-count : tie.After-count = search depth 0 in
+    if-same _ (sym (after-count .count .ensures) ∙ then1 .if1 .taken)
+    (rw (after-word .word .ensures) at (c .equal .ensures))
 
 returns-2 : tie.Need-returns-2
 unfolding named
-returns-2 c = unless-same _ (λ e. c .if1 .left (c .before .count .ensures ∙ e)) refl
+returns-2 c =
+    let after-count : tie.After-count = search depth 0 in
+    unless-same _ (λ e. c .if1 .left (after-count .count .ensures ∙ e)) refl
 
 pub named-spec : {M : Type 1} → statement M
 named-spec = tie.close (tie.spec (λ c κs. tt) (λ c κs. tt) (λ c κs. tt) returns returns-2)

@@ -18,24 +18,38 @@ abbrev μ-loop : tie.MeasureT-loop
 
 returns : tie.Need-returns Inv-loop μ-loop
 returns c =
-    let l = c .before .before .before .before .before .loop in
-    let a = c .before .before .before .before .before .before .before .args in
-    let d = rw (c .before .before .before .word .ensures) at (c .before .before .decimal .ensures) in
-    numbers-not (a .s .now) (l .at) (l .left) (a .most) (c .before .before .before .before .loop-test .taken) (sym (ap (λ (x : Number). x .good) d) ∙ not-true _ (c .if1 .taken)) ∙ l .inv .1
+    let after-decimal : tie.After-decimal Inv-loop μ-loop = search depth 0 in
+    let after-word : tie.After-word Inv-loop μ-loop = search depth 0 in
+    let in-loop : tie.In-loop Inv-loop μ-loop = search depth 0 in
+    let at-loop : tie.At-loop Inv-loop μ-loop = search depth 0 in
+    let start : tie.Start Inv-loop μ-loop = search depth 0 in
+    let l = at-loop .loop in
+    let a = start .args in
+    let d = rw (after-word .word .ensures) at (after-decimal .decimal .ensures) in
+    numbers-not (a .s .now) (l .at) (l .left) (a .most) (in-loop .loop-test .taken)
+    (sym (ap (λ (x : Number). x .good) d) ∙ not-true _ (c .if1 .taken)) ∙ l .inv .1
 
 loop-again : tie.Need-loop-again Inv-loop μ-loop
 loop-again c =
-    let l = c .before .before .before .before .before .loop in
-    let a = c .before .before .before .before .before .before .before .args in
-    let d = rw (c .before .before .before .word .ensures) at (c .before .before .decimal .ensures) in (
+    let after-decimal : tie.After-decimal Inv-loop μ-loop = search depth 0 in
+    let after-word : tie.After-word Inv-loop μ-loop = search depth 0 in
+    let in-loop : tie.In-loop Inv-loop μ-loop = search depth 0 in
+    let at-loop : tie.At-loop Inv-loop μ-loop = search depth 0 in
+    let start : tie.Start Inv-loop μ-loop = search depth 0 in
+    let l = at-loop .loop in
+    let a = start .args in
+    let d = rw (after-word .word .ensures) at (after-decimal .decimal .ensures) in (
       omega arith,
-      numbers-more (a .s .now) (l .at) (l .left) (a .most) (c .before .before .before .before .loop-test .taken) (sym (ap (λ (x : Number). x .good) d) ∙ not-false _ (c .if1 .left)) ∙ l .inv .1,
+      numbers-more (a .s .now) (l .at) (l .left) (a .most) (in-loop .loop-test .taken)
+          (sym (ap (λ (x : Number). x .good) d) ∙ not-false _ (c .if1 .left)) ∙ l .inv .1,
     )
 
 returns-2 : tie.Need-returns-2 Inv-loop μ-loop
 returns-2 c =
-    let l = c .before .loop in
-    let a = c .before .before .before .args in
+    let at-loop : tie.At-loop Inv-loop μ-loop = search depth 0 in
+    let start : tie.Start Inv-loop μ-loop = search depth 0 in
+    let l = at-loop .loop in
+    let a = start .args in
     numbers-last (a .s .now) (l .at) (l .left) (a .most) (c .loop-test .left) ∙ l .inv .1
 
 pub numbers-spec : {M : Type 1} → statement M

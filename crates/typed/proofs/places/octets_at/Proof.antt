@@ -6,7 +6,9 @@ use Rattle.typed.proofs.places.octets_at.Statement.{statement}
 use Rattle.typed.proofs.places.octets_at.Tie as tie
 
 returns : tie.Need-returns
-returns c = c .is-octets .ensures ∙ ap isOctets (c .before .word .ensures)
+returns c =
+    let after-word : tie.After-word = search depth 0 in
+    c .is-octets .ensures ∙ ap isOctets (after-word .word .ensures)
 
 pub octets-at-spec : {M : Type 1} → statement M
 octets-at-spec = tie.close (tie.spec (λ c κs. tt) (λ c κs. tt) returns)

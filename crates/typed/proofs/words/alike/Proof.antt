@@ -17,20 +17,28 @@ abbrev μ-loop : tie.MeasureT-loop
 
 returns : tie.Need-returns Inv-loop μ-loop
 returns c =
-    let l = c .before .before .before .before .loop in
-    let a = c .before .before .before .before .before .args in
-    equal-not (a .s .now) (a .t .now) (l .i) (c .before .before .before .loop-test .taken) (omega arith) (c .if1 .taken) ∙ l .inv
+    let in-loop : tie.In-loop Inv-loop μ-loop = search depth 0 in
+    let at-loop : tie.At-loop Inv-loop μ-loop = search depth 0 in
+    let start : tie.Start Inv-loop μ-loop = search depth 0 in
+    let l = at-loop .loop in
+    let a = start .args in
+    equal-not (a .s .now) (a .t .now) (l .i) (in-loop .loop-test .taken) (omega arith) (c .if1 .taken) ∙ l .inv
 
 loop-again : tie.Need-loop-again Inv-loop μ-loop
 loop-again c =
-    let l = c .before .before .before .before .loop in
-    let a = c .before .before .before .before .before .args in
-    equal-more (a .s .now) (a .t .now) (l .i) (c .before .before .before .loop-test .taken) (omega arith) (c .if1 .left) ∙ l .inv
+    let in-loop : tie.In-loop Inv-loop μ-loop = search depth 0 in
+    let at-loop : tie.At-loop Inv-loop μ-loop = search depth 0 in
+    let start : tie.Start Inv-loop μ-loop = search depth 0 in
+    let l = at-loop .loop in
+    let a = start .args in
+    equal-more (a .s .now) (a .t .now) (l .i) (in-loop .loop-test .taken) (omega arith) (c .if1 .left) ∙ l .inv
 
 returns-2 : tie.Need-returns-2 Inv-loop μ-loop
 returns-2 c =
-    let l = c .before .loop in
-    let a = c .before .before .args in
+    let at-loop : tie.At-loop Inv-loop μ-loop = search depth 0 in
+    let start : tie.Start Inv-loop μ-loop = search depth 0 in
+    let l = at-loop .loop in
+    let a = start .args in
     equal-last (a .s .now) (a .t .now) (l .i) (c .loop-test .left) (omega arith) ∙ l .inv
 
 pub alike-spec : {M : Type 1} → statement M

@@ -16,18 +16,27 @@ abbrev μ-loop : tie.MeasureT-loop
 
 loop-holds : tie.Need-loop-holds Inv-loop μ-loop
 unfolding beginOf
-loop-holds c = let a = c .before .before .args in ap (λ (at : ℕ). ahead (a .s .now) at (a .k)) (c .begins .ensures)
+loop-holds c =
+    let start : tie.Start Inv-loop μ-loop = search depth 0 in
+    let a = start .args in ap (λ (at : ℕ). ahead (a .s .now) at (a .k)) (c .begins .ensures)
 
 loop-again : tie.Need-loop-again Inv-loop μ-loop
 loop-again c =
-    let l = c .before .before .before .loop in
-    let s = c .before .before .before .before .before .before .args .s .now in
-    rw (c .begins2 .ensures, c .before .ends .ensures .0) (ahead-more s (l .at) (l .left) (c .before .before .loop-test .taken) ∙ l .inv)
+    let after-ends : tie.After-ends Inv-loop μ-loop = search depth 0 in
+    let in-loop : tie.In-loop Inv-loop μ-loop = search depth 0 in
+    let at-loop : tie.At-loop Inv-loop μ-loop = search depth 0 in
+    let start : tie.Start Inv-loop μ-loop = search depth 0 in
+    let l = at-loop .loop in
+    let s = start .args .s .now in
+    rw (c .begins2 .ensures, after-ends .ends .ensures .0)
+    (ahead-more s (l .at) (l .left) (in-loop .loop-test .taken) ∙ l .inv)
 
 returns : tie.Need-returns Inv-loop μ-loop
 returns c =
-    let l = c .before .loop in
-    ahead-none (c .before .before .before .before .args .s .now) (l .at) (l .left) (c .loop-test .left) ∙ l .inv
+    let at-loop : tie.At-loop Inv-loop μ-loop = search depth 0 in
+    let start : tie.Start Inv-loop μ-loop = search depth 0 in
+    let l = at-loop .loop in
+    ahead-none (start .args .s .now) (l .at) (l .left) (c .loop-test .left) ∙ l .inv
 
 pub begin-of-spec : {M : Type 1} → statement M
 begin-of-spec =

@@ -1,5 +1,5 @@
--- `typed::words::count` meets its contract. The loop's invariant: the words counted, and those that begin in the rest, are all.
--- Assumes nothing.
+-- `typed::words::count` meets its contract. The loop's invariant: the words counted, and those that begin in the
+-- rest, are all. Assumes nothing.
 use Prim.Native.Nat.{_+_, _-_, _≤_}
 use mathlib.Core.Path.{_≡_}
 use native.Mathlib.Nat.{zero-add}
@@ -18,15 +18,24 @@ abbrev μ-loop : tie.MeasureT-loop
 
 loop-again : tie.Need-loop-again Inv-loop μ-loop
 loop-again c =
-    let l = c .before .before .before .before .loop in
-    let s = c .before .before .before .before .before .before .args .s .now in
-    let h = c .before .before .before .loop-test .taken in
-    (omega arith, rw (c .blank .ensures) (omega (arith, behind-more s (l .i) (l .space) h, l .inv .1, c .before .begun .ensures .0)))
+    let after-begun : tie.After-begun Inv-loop μ-loop = search depth 0 in
+    let in-loop : tie.In-loop Inv-loop μ-loop = search depth 0 in
+    let at-loop : tie.At-loop Inv-loop μ-loop = search depth 0 in
+    let start : tie.Start Inv-loop μ-loop = search depth 0 in
+    let l = at-loop .loop in
+    let s = start .args .s .now in
+    let h = in-loop .loop-test .taken in (
+      omega arith,
+      rw (c .blank .ensures)
+          (omega (arith, behind-more s (l .i) (l .space) h, l .inv .1, after-begun .begun .ensures .0)),
+    )
 
 returns : tie.Need-returns Inv-loop μ-loop
 returns c =
-    let l = c .before .loop in
-    omega (arith, l .inv .1, behind-last (c .before .before .before .args .s .now) (l .i) (l .space) (c .loop-test .left))
+    let at-loop : tie.At-loop Inv-loop μ-loop = search depth 0 in
+    let start : tie.Start Inv-loop μ-loop = search depth 0 in
+    let l = at-loop .loop in
+    omega (arith, l .inv .1, behind-last (start .args .s .now) (l .i) (l .space) (c .loop-test .left))
 
 pub count-spec : {M : Type 1} → statement M
 count-spec =

@@ -9,7 +9,9 @@ use Rattle.typed_call.specs.Operands.{mastersOf}
 
 returns : tie.Need-returns
 unfolding listed mastersOf
-returns c = rw (c .before .before .word .ensures) at (ap (λ (x : Listed). x .marks) (c .masters .ensures))
+returns c =
+    let after-word : tie.After-word = search depth 0 in
+    rw (after-word .word .ensures) at (ap (λ (x : Listed). x .marks) (c .masters .ensures))
 
 pub masters-spec : {M : Type 1} → statement M
 masters-spec = tie.close (tie.spec (λ c κs. search needs) (λ c κs. search needs) returns)

@@ -10,7 +10,9 @@ use Rattle.typed_call.specs.Operands.{numberAt}
 
 returns : tie.Need-returns
 unfolding numberAt
-returns c = rw (c .before .word .ensures) at (ap (λ (x : Number). x .value) (c .decimal .ensures))
+returns c =
+    let after-word : tie.After-word = search depth 0 in
+    rw (after-word .word .ensures) at (ap (λ (x : Number). x .value) (c .decimal .ensures))
 
 pub number-spec : {M : Type 1} → statement M
 number-spec = tie.close (tie.spec (λ c κs. search needs) (λ c κs. search needs) returns)

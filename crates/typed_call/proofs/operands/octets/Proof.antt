@@ -8,7 +8,12 @@ use Rattle.typed_call.proofs.operands.Words.{octets-read}
 
 returns : tie.Need-returns
 unfolding octetsAt
-returns c = rw (c .before .before .hex .ensures .0, c .before .before .hex .ensures .1, c .before .before .before .before .word .ensures) (octets-read (c .before .before .before .before .before .before .before .args .line .now) (c .before .before .before .before .before .before .before .args .k) (c .before .before .before .before .before .before .before .args .out .now) (c .before .before .before .before .before .before .before .pre .0) (c .before .before .before .before .before .before .before .pre .1))
+returns c =
+    let after-hex : tie.After-hex = search depth 0 in
+    let after-word : tie.After-word = search depth 0 in
+    let start : tie.Start = search depth 0 in
+    rw (after-hex .hex .ensures .0, after-hex .hex .ensures .1, after-word .word .ensures)
+    (octets-read (start .args .line .now) (start .args .k) (start .args .out .now) (start .pre .0) (start .pre .1))
 
 pub octets-spec : {M : Type 1} → statement M
 octets-spec = tie.close (tie.spec (λ c κs. search needs) (λ c κs. search needs) (λ c. search needs) returns)

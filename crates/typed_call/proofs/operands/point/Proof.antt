@@ -13,7 +13,9 @@ returns c = if-same _ (c .if1 .taken) refl
 
 returns-2 : tie.Need-returns-2
 unfolding point
-returns-2 c = unless-same _ (c .before .if1 .left) (c .octet .ensures)
+returns-2 c =
+    let else1 : tie.Else1 = search depth 0 in
+    unless-same _ (else1 .if1 .left) (c .octet .ensures)
 
 pub point-spec : {M : Type 1} → statement M
 point-spec = tie.close (tie.spec returns (λ c κs. search needs) returns-2)

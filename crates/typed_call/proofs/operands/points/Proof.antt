@@ -9,7 +9,9 @@ use Rattle.typed_call.specs.Operands.{pointsOf}
 
 returns : tie.Need-returns
 unfolding listed pointsOf
-returns c = rw (c .before .before .word .ensures) at (ap (λ (x : Listed). x .marks) (c .points .ensures))
+returns c =
+    let after-word : tie.After-word = search depth 0 in
+    rw (after-word .word .ensures) at (ap (λ (x : Listed). x .marks) (c .points .ensures))
 
 pub points-spec : {M : Type 1} → statement M
 points-spec = tie.close (tie.spec (λ c κs. search needs) (λ c κs. search needs) returns)

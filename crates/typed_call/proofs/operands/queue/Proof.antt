@@ -10,11 +10,17 @@ use Rattle.typed_call.specs.Operands.{queueOf}
 
 returns : tie.Need-returns
 unfolding queueOf
-returns c = if-same Low (rw (c .before .before .queue .ensures, c .before .before .before .word .ensures) at (c .if1 .taken)) refl
+returns c =
+    let after-queue : tie.After-queue = search depth 0 in
+    let after-word : tie.After-word = search depth 0 in
+    if-same Low (rw (after-queue .queue .ensures, after-word .word .ensures) at (c .if1 .taken)) refl
 
 returns-2 : tie.Need-returns-2
 unfolding queueOf
-returns-2 c = unless-same High (rw (c .before .before .queue .ensures, c .before .before .before .word .ensures) at (c .if1 .left)) refl
+returns-2 c =
+    let after-queue : tie.After-queue = search depth 0 in
+    let after-word : tie.After-word = search depth 0 in
+    unless-same High (rw (after-queue .queue .ensures, after-word .word .ensures) at (c .if1 .left)) refl
 
 pub queue-spec : {M : Type 1} → statement M
 queue-spec = tie.close (tie.spec (λ c κs. search needs) (λ c κs. search needs) returns returns-2)

@@ -7,7 +7,18 @@ use Rattle.typed_call.specs.Operands.{requestOf}
 
 returns : tie.Need-returns
 unfolding requestOf
-returns c = rw (← c .point-at2 .ensures, ← c .before .point-at .ensures, ← c .before .before .service .ensures, ← c .before .before .before .before .number .ensures, ← c .before .before .before .octet .ensures)
+returns c =
+    let after-point-at : tie.After-point-at = search depth 0 in
+    let after-service : tie.After-service = search depth 0 in
+    let after-octet : tie.After-octet = search depth 0 in
+    let after-number : tie.After-number = search depth 0 in
+    rw (
+      ← c .point-at2 .ensures,
+      ← after-point-at .point-at .ensures,
+      ← after-service .service .ensures,
+      ← after-number .number .ensures,
+      ← after-octet .octet .ensures,
+    )
 
 pub request-spec : {M : Type 1} → statement M
 request-spec =

@@ -9,11 +9,17 @@ use Rattle.typed_call.specs.Operands.{roomOf}
 
 returns : tie.Need-returns
 unfolding roomOf
-returns c = rw (c .before .before .before .word .ensures) at (sym (same-true (rw (c .before .before .room .ensures) at (c .if1 .taken))))
+returns c =
+    let after-room : tie.After-room = search depth 0 in
+    let after-word : tie.After-word = search depth 0 in
+    rw (after-word .word .ensures) at (sym (same-true (rw (after-room .room .ensures) at (c .if1 .taken))))
 
 returns-2 : tie.Need-returns-2
 unfolding roomOf
-returns-2 c = rw (c .before .before .before .word .ensures) at (sym (same-false (rw (c .before .before .room .ensures) at (c .if1 .left))))
+returns-2 c =
+    let after-room : tie.After-room = search depth 0 in
+    let after-word : tie.After-word = search depth 0 in
+    rw (after-word .word .ensures) at (sym (same-false (rw (after-room .room .ensures) at (c .if1 .left))))
 
 pub room-spec : {M : Type 1} → statement M
 room-spec = tie.close (tie.spec (λ c κs. search needs) (λ c κs. search needs) returns returns-2)

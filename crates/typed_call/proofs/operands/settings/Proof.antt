@@ -7,7 +7,22 @@ use Rattle.typed_call.specs.Operands.{settingsOf}
 
 returns : tie.Need-returns
 unfolding settingsOf
-returns c = rw (← c .number .ensures, ← c .before .time6 .ensures, ← c .before .before .time5 .ensures, ← c .before .before .before .time4 .ensures, ← c .before .before .before .before .time3 .ensures, ← c .before .before .before .before .before .time2 .ensures, ← c .before .before .before .before .before .before .time .ensures)
+returns c =
+    let after-time6 : tie.After-time6 = search depth 0 in
+    let after-time5 : tie.After-time5 = search depth 0 in
+    let after-time4 : tie.After-time4 = search depth 0 in
+    let after-time3 : tie.After-time3 = search depth 0 in
+    let after-time2 : tie.After-time2 = search depth 0 in
+    let after-time : tie.After-time = search depth 0 in
+    rw (
+      ← c .number .ensures,
+      ← after-time6 .time6 .ensures,
+      ← after-time5 .time5 .ensures,
+      ← after-time4 .time4 .ensures,
+      ← after-time3 .time3 .ensures,
+      ← after-time2 .time2 .ensures,
+      ← after-time .time .ensures,
+    )
 
 pub settings-spec : {M : Type 1} → statement M
 settings-spec =

@@ -7,7 +7,9 @@ use Rattle.typed_call.specs.Operands.{tsOf}
 
 returns : tie.Need-returns
 unfolding tsOf
-returns c = rw (c .before .number .ensures) at (c .octet .ensures)
+returns c =
+    let after-number : tie.After-number = search depth 0 in
+    rw (after-number .number .ensures) at (c .octet .ensures)
 
 pub ts-spec : {M : Type 1} → statement M
 ts-spec = tie.close (tie.spec (λ c κs. search needs) (λ c κs. search needs) returns)

@@ -1,37 +1,26 @@
--- `typed_call::script::is_frame` meets its contract: each return is one case of the chain.
--- Assumes nothing.
-use mathlib.Core.Path.{refl}
+-- `typed_call::script::is_frame` meets its contract: each return is one case of the chain. Assumes nothing.
 use native.Mathlib.Omega.{arith}
 use borrow.Author.Needs.{needs}
-use Rattle.choice.specs.Choice.{said}
-use Rattle.choice.proofs.Rules.{denied-true, denied-false}
+use Rattle.choice.proofs.Rules.{asked}
 use Rattle.typed_call.specs.Script.{isFrame}
 use Rattle.typed_call.proofs.script.is_frame.Statement.{statement}
 use Rattle.typed_call.proofs.script.is_frame.Tie as tie
 
 returns : tie.Need-returns
 unfolding isFrame
-returns c = denied-true _ (c .before .named .ensures) (c .if1 .taken) refl
+returns c = search asked depth 20
 
 returns-2 : tie.Need-returns-2
 unfolding isFrame
-returns-2 c = denied-false _ (c .before .before .before .named .ensures) (c .before .before .if1 .left) (denied-true _ (c .before .numbers .ensures) (c .if2 .taken) refl)
+returns-2 c = search asked depth 20
 
 returns-3 : tie.Need-returns-3
 unfolding isFrame
-returns-3 c = denied-false _ (c .before .before .before .before .before .before .named .ensures) (c .before .before .before .before .before .if1 .left) (denied-false _ (c .before .before .before .before .numbers .ensures) (c .before .before .before .if2 .left) (denied-true _ (rw (c .before .before .word .ensures) at (c .before .is-room .ensures)) (c .if3 .taken) refl))
+returns-3 c = search asked depth 20
 
 returns-4 : tie.Need-returns-4
 unfolding isFrame
-returns-4 c = denied-false _ (c .before .before .before .before .before .before .before .before .named .ensures) (c .before .before .before .before .before .before .before .if1 .left) (denied-false _ (c .before .before .before .before .before .before .numbers .ensures) (c .before .before .before .before .before .if2 .left) (denied-false _ (rw (c .before .before .before .before .word .ensures) at (c .before .before .before .is-room .ensures)) (c .before .before .if3 .left) (denied-true _ (c .before .octets-at .ensures) (c .if4 .taken) refl)))
-
-returns-5 : tie.Need-returns-5
-unfolding isFrame
-returns-5 c = denied-false _ (c .before .before .before .before .before .before .before .before .before .before .named .ensures) (c .before .before .before .before .before .before .before .before .before .if1 .left) (denied-false _ (c .before .before .before .before .before .before .before .before .numbers .ensures) (c .before .before .before .before .before .before .before .if2 .left) (denied-false _ (rw (c .before .before .before .before .before .before .word .ensures) at (c .before .before .before .before .before .is-room .ensures)) (c .before .before .before .before .if3 .left) (denied-false _ (c .before .before .before .octets-at .ensures) (c .before .before .if4 .left) (denied-true _ (c .before .octets-at2 .ensures) (c .if5 .taken) refl))))
-
-returns-6 : tie.Need-returns-6
-unfolding isFrame said
-returns-6 c = denied-false _ (c .before .before .before .before .before .before .before .before .before .before .before .named .ensures) (c .before .before .before .before .before .before .before .before .before .before .if1 .left) (denied-false _ (c .before .before .before .before .before .before .before .before .before .numbers .ensures) (c .before .before .before .before .before .before .before .before .if2 .left) (denied-false _ (rw (c .before .before .before .before .before .before .before .word .ensures) at (c .before .before .before .before .before .before .is-room .ensures)) (c .before .before .before .before .before .if3 .left) (denied-false _ (c .before .before .before .before .octets-at .ensures) (c .before .before .before .if4 .left) (denied-false _ (c .before .before .octets-at2 .ensures) (c .before .if5 .left) (c .octets-at3 .ensures)))))
+returns-4 c = search asked depth 20
 
 pub is-frame-spec : {M : Type 1} → statement M
 is-frame-spec =
@@ -43,11 +32,6 @@ is-frame-spec =
     (λ c κs. omega arith)
     returns-2
     (λ c κs. tt)
-    (λ c κs. tt)
     returns-3
     (λ c κs. tt)
-    returns-4
-    (λ c κs. tt)
-    returns-5
-    (λ c κs. tt)
-    returns-6)
+    returns-4)
