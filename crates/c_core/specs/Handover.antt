@@ -1,6 +1,6 @@
--- What a station's calls take and hand over at the C boundary: a state from numbers and lent arrays, and each answer as a
--- struct of numbers. "The call returns the number and the state it was given": where a call is refused, the core handed
--- over is the one it was given. Assumes nothing.
+-- What a station's calls take and hand over at the C boundary: a state from numbers and lent arrays, and each answer
+-- as a struct of numbers. "The call returns the number and the state it was given": where a call is refused, the core
+-- handed over is the one it was given. Assumes nothing.
 use Prim.Native.Nat.{ℕ}
 use mathlib.Core.Bool.{Bool, true, false}
 use mathlib.Core.List.{List}
@@ -111,11 +111,21 @@ pub record Lodged (A : Type 0) : Type 0 where
 
 abbrev pub lodged : {A : Type 0} → A → List ℕ → List ℕ → List ℕ → List ℕ → List ℕ → List ℕ → List ℕ → Lodged A
 lodged a masters started marks points octets row area =
-    record { answer = a; masters = masters; started = started; marks = marks; points = points; octets = octets; row = row; area = area }
+    record {
+      answer = a;
+      masters = masters;
+      started = started;
+      marks = marks;
+      points = points;
+      octets = octets;
+      row = row;
+      area = area;
+    }
 
 unfoldable pub lodging : {A : Type 0} → Priority → A → Called → Lodged A
 lodging p a d =
-    lodged a (d .world .site .masters) (d .world .started) (d .world .site .marks) (d .world .points) (d .world .memory .octets) (rowsOf p (d .world .site) .row) (rowsOf p (d .world .site) .area)
+    lodged a (d .world .site .masters) (d .world .started) (d .world .site .marks) (d .world .points)
+    (d .world .memory .octets) (rowsOf p (d .world .site) .row) (rowsOf p (d .world .site) .area)
 
 unfoldable pub submitting : Numbers → Priority → Called → Lodged FlatAccepted
 submitting n p d = lodging p (flatAccepted n (acceptedOf d)) d
@@ -137,15 +147,29 @@ pub record Held (A : Type 0) : Type 0 where
 
 abbrev pub held : {A : Type 0} → A → List ℕ → List ℕ → List ℕ → List ℕ → List ℕ → Rows → Rows → List ℕ → Held A
 held a masters started marks points octets high low out =
-    record { answer = a; masters = masters; started = started; marks = marks; points = points; octets = octets; high = high; low = low; out = out }
+    record {
+      answer = a;
+      masters = masters;
+      started = started;
+      marks = marks;
+      points = points;
+      octets = octets;
+      high =
+          high;
+      low = low;
+      out = out;
+    }
 
 unfoldable pub holding : Numbers → Stands → Held FlatAnswer
 holding n s =
-    held (flatAnswer n (s .answer)) (s .masters) (s .started) (s .marks) (s .points) (s .octets) (s .high) (s .low) (s .out)
+    held (flatAnswer n (s .answer)) (s .masters) (s .started) (s .marks) (s .points) (s .octets) (s .high) (s .low)
+    (s .out)
 
 unfoldable pub resetting : Numbers → Leaves Renewed → Held FlatRenewed
 resetting n l =
-    held (flatRenewed n (l .answer)) (l .answer .state .masters .0) (l .answer .state .started .0) (l .answer .state .marks .0) (l .answer .state .points .0) (l .answer .state .memory .octets) (l .high) (l .low) (l .out)
+    held (flatRenewed n (l .answer)) (l .answer .state .masters .0) (l .answer .state .started .0)
+    (l .answer .state .marks .0) (l .answer .state .points .0) (l .answer .state .memory .octets) (l .high) (l .low)
+    (l .out)
 
 -- of start: the arrays; a refused one leaves those that it fills
 pub record Filled : Type 0 where
@@ -163,5 +187,6 @@ filled a masters started marks points octets =
 unfoldable pub starting : Renewed → List ℕ → List ℕ → List ℕ → List ℕ → List ℕ → Filled
 starting a masters started marks points octets =
     pick (same (a .refused) 0)
-    (filled (flatStarted a) (a .state .masters .0) (a .state .started .0) (a .state .marks .0) (a .state .points .0) (a .state .memory .octets))
+    (filled (flatStarted a) (a .state .masters .0) (a .state .started .0) (a .state .marks .0) (a .state .points .0)
+    (a .state .memory .octets))
     (filled (flatStarted a) masters started marks points octets)

@@ -1,5 +1,5 @@
--- What the C boundary holds of a station: its core and what its memory keeps as one struct of numbers, and an indication as
--- another. 255 stands for "no access point". Assumes nothing.
+-- What the C boundary holds of a station: its core and what its memory keeps as one struct of numbers, and an
+-- indication as another. 255 stands for "no access point". Assumes nothing.
 use Prim.Native.Nat.{ℕ}
 use mathlib.Core.Bool.{Bool, true, false}
 use Rattle.choice.specs.Choice.{pick, less, same, said}
@@ -91,7 +91,8 @@ holdIn n = record { acceptance = record { 0 = n .acceptance }; before = record {
 
 unfoldable pub highIn : Numbers → Queue
 highIn n =
-    record { places = n .highplaces; first = n .highfirst; confirmed = n .highconfirmed; unconfirmed = n .highunconfirmed }
+    record
+    { places = n .highplaces; first = n .highfirst; confirmed = n .highconfirmed; unconfirmed = n .highunconfirmed }
 
 unfoldable pub lowIn : Numbers → Queue
 lowIn n =

@@ -1,5 +1,5 @@
-// What a station's calls take and hand over at the C boundary: a state from numbers and lent arrays, and each answer as a
-// struct of numbers. Where a call is refused, the core handed over is the one it was given. Assumes nothing.
+// What a station's calls take and hand over at the C boundary: a state from numbers and lent arrays, and each answer
+// as a struct of numbers. Where a call is refused, the core handed over is the one it was given. Assumes nothing.
 ghost use mathlib.Core.Path.{_≡_};
 ghost use Rattle.c_core.specs.Handover.{stateIn, requestFrom, roomOf, numbersAfter, flatAccepted};
 ghost use Rattle.c_core.specs.Handover.{flatCollected, flatRenewed, flatStarted, flatAnswer};
@@ -51,7 +51,8 @@ pub struct FlatRenewed {
     pub core: Numbers,
 }
 
-// What frame, sent and slot answer: the refusal or 0, how many octets to send and after which wait, and what is indicated.
+// What frame, sent and slot answer: the refusal or 0, how many octets to send and after which wait, and what is
+// indicated.
 #[repr(C)]
 pub struct FlatAnswer {
     pub refused: u8,

@@ -1,5 +1,6 @@
-// What the C boundary holds of a station: numbers for the core and for what the memory keeps, and for an indication. Every
-// number is taken; where one stands for no case, the station has TS 127, which every call refuses. Assumes nothing.
+// What the C boundary holds of a station: numbers for the core and for what the memory keeps, and for an indication.
+// Every number is taken; where one stands for no case, the station has TS 127, which every call refuses. Assumes
+// nothing.
 ghost use mathlib.Core.Path.{_≡_};
 ghost use Rattle.c_core.specs.Numbers.{phaseNumber, phaseOf, servedNumber, servedOf, flagNumber, flagOf};
 ghost use Rattle.c_core.specs.Numbers.{malformed as Numbers·malformed, tsIn, settingsIn, settingsOf, doingIn};
@@ -31,8 +32,8 @@ pub struct FlatSettings {
     pub retries: u32,
 }
 
-// The core of a station and what its memory keeps, as numbers. Phase is 0 Idle, 1 Reply awaited, 2 SDN going out, 3 Pass
-// checked, 4 Pass to self; served is 0 for the high queue, 1 for the low; sdn and bit are 0 or 1.
+// The core of a station and what its memory keeps, as numbers. Phase is 0 Idle, 1 Reply awaited, 2 SDN going out, 3
+// Pass checked, 4 Pass to self; served is 0 for the high queue, 1 for the low; sdn and bit are 0 or 1.
 #[repr(C)]
 pub struct Numbers {
     pub settings: FlatSettings,
@@ -59,7 +60,8 @@ pub struct Numbers {
     pub length: u16,
 }
 
-// A request that is shown: indicated is 1, and its fields and where its data lie follow; or nothing, and indicated is 0.
+// A request that is shown: indicated is 1, and its fields and where its data lie follow; or nothing, and indicated is
+// 0.
 #[repr(C)]
 pub struct FlatIndication {
     pub indicated: u8,

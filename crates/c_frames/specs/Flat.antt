@@ -18,11 +18,43 @@ use Rattle.c_frames.specs.declared.FlatWritten.{FlatWritten}
 -- an answer: its refusal, or the form (1 token, 2 short acknowledgement, 3 frame), the fields and where the data lie
 unfoldable pub flat : Answer → FlatFrame
 flat (Refused n) =
-    record { refused = n; form = 0; destination = 0; to = NONE; source = 0; from = NONE; control = 0; start = 0; count = 0 }
+    record {
+      refused = n;
+      form = 0;
+      destination = 0;
+      to = NONE;
+      source = 0;
+      from = NONE;
+      control = 0;
+      start = 0;
+      count =
+          0;
+    }
 flat (Read (Token d s) p) =
-    record { refused = 0; form = 1; destination = d .0; to = NONE; source = s .0; from = NONE; control = 0; start = p .start; count = p .count }
+    record {
+      refused = 0;
+      form = 1;
+      destination = d .0;
+      to = NONE;
+      source = s .0;
+      from = NONE;
+      control = 0;
+      start = p
+          .start;
+      count = p .count;
+    }
 flat (Read Short p) =
-    record { refused = 0; form = 2; destination = 0; to = NONE; source = 0; from = NONE; control = 0; start = p .start; count = p .count }
+    record {
+      refused = 0;
+      form = 2;
+      destination = 0;
+      to = NONE;
+      source = 0;
+      from = NONE;
+      control = 0;
+      start = p .start;
+      count = p .count;
+    }
 flat (Read (Frame h) p) =
     record {
       refused = 0;

@@ -1,5 +1,5 @@
-// The reader and the writer for a caller that gives numbers and takes structs of numbers. Only an FC that is not listed,
-// which the fields cannot hold, is refused here. Assumes nothing.
+// The reader and the writer for a caller that gives numbers and takes structs of numbers. Only an FC that is not
+// listed, which the fields cannot hold, is refused here. Assumes nothing.
 ghost use mathlib.Core.Path.{_≡_};
 ghost use Rattle.frame.specs.Reading.{read as Reading·read};
 ghost use Rattle.c_frames.specs.Flat.{flat as Flat·flat, flatWritten, unlisted as Flat·unlisted, writes, leaves};

@@ -1,5 +1,5 @@
--- Submit and collect leave the arrays of a station as they were, so their answers and the lent row are all that they hand
--- over. Assumes nothing.
+-- Submit and collect leave the arrays of a station as they were, so their answers and the lent row are all that they
+-- hand over. Assumes nothing.
 use Prim.Native.Nat.{ℕ}
 use mathlib.Core.Bool.{Bool, true, false}
 use mathlib.Core.List.{List}
@@ -49,7 +49,8 @@ unfolding pick
 same-done true x y w e f = e
 same-done false x y w e f = f
 
-same-still : (p : Priority) (e : List Event) (s : State) (r : Rows) → Same s (called (done (lent p s r .site) e) (lent p s r))
+same-still : (p : Priority) (e : List Event) (s : State) (r : Rows)
+    → Same s (called (done (lent p s r .site) e) (lent p s r))
 unfolding called done withSite lent worldOf
 same-still High e s r = record { masters = refl; started = refl; marks = refl; points = refl; octets = refl }
 same-still Low e s r = record { masters = refl; started = refl; marks = refl; points = refl; octets = refl }
@@ -74,10 +75,12 @@ submit-same p q x s r =
 same-collected : (p : Priority) (c : Collected) (s : State) (r : Rows)
     → Same s (called (Calls.collecting p c (lent p s r .site)) (lent p s r))
 unfolding Calls.collecting called done withCore withSite lent worldOf
-same-collected High (Refused n) s r = record { masters = refl; started = refl; marks = refl; points = refl; octets = refl }
+same-collected High (Refused n) s r =
+    record { masters = refl; started = refl; marks = refl; points = refl; octets = refl }
 same-collected High (Handed n e q) s r =
     record { masters = refl; started = refl; marks = refl; points = refl; octets = refl }
-same-collected Low (Refused n) s r = record { masters = refl; started = refl; marks = refl; points = refl; octets = refl }
+same-collected Low (Refused n) s r =
+    record { masters = refl; started = refl; marks = refl; points = refl; octets = refl }
 same-collected Low (Handed n e q) s r =
     record { masters = refl; started = refl; marks = refl; points = refl; octets = refl }
 
@@ -87,7 +90,8 @@ collect-same p s r =
     same-pick _ (same-refused p 21 s r) (same-pick _ (same-refused p 29 s r) (same-collected p _ s r))
 
 -- collect leaves the row too
-same-row : (p : Priority) {r : Rows} (b : Bool) (x y : Called) → rowsOf p (x .world .site) ≡ r → rowsOf p (y .world .site) ≡ r
+same-row : (p : Priority) {r : Rows} (b : Bool) (x y : Called) → rowsOf p (x .world .site) ≡ r
+    → rowsOf p (y .world .site) ≡ r
     → rowsOf p (pick b x y .world .site) ≡ r
 unfolding pick
 same-row p true x y e f = e
@@ -113,24 +117,34 @@ collect-row p s r =
 
 -- ---- what they hand over, by what the code finds
 lodging-same : {A : Type 0} (p : Priority) (a : A) {s : State} {d : Called} → Same s d
-    → lodged a (s .masters .0) (s .started .0) (s .marks .0) (s .points .0) (s .memory .octets) (rowsOf p (d .world .site) .row) (rowsOf p (d .world .site) .area) ≡ lodging p a d
+    → lodged a (s .masters .0) (s .started .0) (s .marks .0) (s .points .0) (s .memory .octets)
+    (rowsOf p (d .world .site) .row) (rowsOf p (d .world .site) .area)
+    ≡ lodging p a d
 unfolding lodging
 lodging-same p a k = rw (k .masters, k .started, k .marks, k .points, k .octets)
 
 module _ (n : Numbers) (p : Priority) (s : State) (row area : List ℕ) where
   pub submit-lodged : (q : Record) (x : List ℕ) {a : Accepted} {row′ area′ : List ℕ}
       → left a row′ area′ ≡ submittedOf p (submit p q x (lent p s (rows row area)))
-      → lodged (flatAccepted n a) (s .masters .0) (s .started .0) (s .marks .0) (s .points .0) (s .memory .octets) row′ area′ ≡ submitting n p (submit p q x (lent p s (rows row area)))
+      → lodged (flatAccepted n a) (s .masters .0) (s .started .0) (s .marks .0) (s .points .0)
+      (s .memory .octets) row′ area′
+      ≡ submitting n p (submit p q x (lent p s (rows row area)))
   unfolding submittedOf submitting
   submit-lodged q x e =
-      rw
-      (ap (λ (l : Left Accepted). l .answer) e, ap (λ (l : Left Accepted). l .row) e, ap (λ (l : Left Accepted). l .area) e)
+      rw (
+        ap (λ (l : Left Accepted). l .answer) e,
+        ap (λ (l : Left Accepted). l .row) e,
+        ap (λ (l : Left Accepted). l .area) e,
+      )
       (lodging-same p _ (submit-same p q x s (rows row area)))
 
   pub collect-lodged : {a : HandedBack} → a ≡ handedBackOf (collect p (lent p s (rows row area)))
-      → lodged (flatCollected n a) (s .masters .0) (s .started .0) (s .marks .0) (s .points .0) (s .memory .octets) row area ≡ collecting n p (collect p (lent p s (rows row area)))
+      → lodged (flatCollected n a) (s .masters .0) (s .started .0) (s .marks .0) (s .points .0)
+      (s .memory .octets) row area
+      ≡ collecting n p (collect p (lent p s (rows row area)))
   unfolding collecting
   collect-lodged e =
       rw e
       (rw (collect-row p s (rows row area)) at
-      (lodging-same p (flatCollected n (handedBackOf (collect p (lent p s (rows row area))))) (collect-same p s (rows row area))))
+      (lodging-same p (flatCollected n (handedBackOf (collect p (lent p s (rows row area)))))
+      (collect-same p s (rows row area))))

@@ -9,7 +9,8 @@ use Rattle.c_core.specs.declared.numbers.Numbers.{Numbers}
 use Rattle.c_core.specs.declared.handover.FlatAnswer.{FlatAnswer}
 use Rattle.c_core.specs.Handover.{flatAnswer, held, holding}
 
-pub stands-held : (n : Numbers) {a : Heard} {r : FlatAnswer} {masters started marks points octets out : List ℕ} {high low : Rows} {s : Stands}
+pub stands-held : (n : Numbers) {a : Heard} {r : FlatAnswer} {masters started marks points octets out : List ℕ}
+    {high low : Rows} {s : Stands}
     → stands a masters started marks points octets high low out ≡ s → r ≡ flatAnswer n a
     → held r masters started marks points octets high low out ≡ holding n s
 unfolding holding

@@ -1,6 +1,6 @@
--- The laws of the numbers: a core and what the memory keeps come back from their numbers as they were, so a program that
--- holds the numbers between calls holds all of both; and numbers that stand for no case are refused 29 with any sets.
--- Assumes nothing.
+-- The laws of the numbers: a core and what the memory keeps come back from their numbers as they were, so a program
+-- that holds the numbers between calls holds all of both; and numbers that stand for no case are refused 29 with any
+-- sets. Assumes nothing.
 use Prim.Native.Nat.{ℕ}
 use mathlib.Core.Bool.{Bool, true, false}
 use mathlib.Core.List.{List}
@@ -68,8 +68,12 @@ well-formed p s x b = rw (phase-below p, served-below s, flag-below x, flag-belo
 pub core-back : (c : Core) (k : Kept) → coreIn (numbersOf c k) ≡ c
 unfolding coreIn settingsIn settingsOf tsIn doingIn holdIn highIn lowIn numbersOf said pick
 core-back c k =
-    rw
-    (well-formed (c .doing .phase) (c .doing .served) (c .doing .sdn) (k .bit), phase-back (c .doing .phase), served-back (c .doing .served), flag-back (c .doing .sdn))
+    rw (
+      well-formed (c .doing .phase) (c .doing .served) (c .doing .sdn) (k .bit),
+      phase-back (c .doing .phase),
+      served-back (c .doing .served),
+      flag-back (c .doing .sdn),
+    )
 
 pub kept-back : (c : Core) (k : Kept) → keptIn (numbersOf c k) ≡ k
 unfolding keptIn numbersOf

@@ -11,20 +11,24 @@ use Rattle.c_frames.proofs.writing.Tie as tie
 -- an octet is listed if it is named by the control that it is read as
 listed-named : (p : tie.After-named) → p .named .result ≡ listed (p .before .before .before .before .args .control)
 unfolding listed
-listed-named p = rw (← p .before .control-of .ensures) (p .named .ensures)
+listed-named p =
+    let after-control-of : tie.After-control-of = search depth 0 in
+    rw (← after-control-of .control-of .ensures) (p .named .ensures)
 
 returns : tie.Need-returns
 unfolding writes leaves
 returns c =
-    let l = c .before in
-    let e = listed-named (l .before) in
+    let l : tie.Then1 = search depth 0 in
+    let after-named : tie.After-named = search depth 0 in
+    let e = listed-named after-named in
     (denied-true _ e (l .if1 .taken) (c .unlisted .ensures), denied-true _ e (l .if1 .taken) refl)
 
 returns-2 : tie.Need-returns-2
 unfolding writes leaves headFrom
 returns-2 c =
-    let l = c .before .before .before .before .before .before .before in
-    let e = listed-named (l .before) in
+    let l : tie.Else1 = search depth 0 in
+    let after-named : tie.After-named = search depth 0 in
+    let e = listed-named after-named in
     (denied-false _ e (l .if1 .left) (cc), denied-false _ e (l .if1 .left) (cc))
 
 pub writing-spec : {M : Type 1} → statement M

@@ -10,7 +10,8 @@ returns c =
     let settings : tie.After-settings-in = search depth 0 in
     let start : tie.After-start = search depth 0 in
     let then1 : tie.Then1 = search depth 0 in
-    start-refused _ _ _ _ _ _ _ _ _ (rw (← settings .settings-in .ensures) (start .start .ensures)) (c .started .ensures)
+    start-refused _ _ _ _ _ _ _ _ _ (rw (← settings .settings-in .ensures) (start .start .ensures))
+    (c .started .ensures)
     (then1 .if1 .taken)
 
 returns-2 : tie.Need-returns-2
@@ -18,7 +19,8 @@ returns-2 c =
     let settings : tie.After-settings-in = search depth 0 in
     let start : tie.After-start = search depth 0 in
     let else1 : tie.Else1 = search depth 0 in
-    start-filled _ _ _ _ _ _ _ _ _ (rw (← settings .settings-in .ensures) (start .start .ensures)) (c .started2 .ensures)
+    start-filled _ _ _ _ _ _ _ _ _ (rw (← settings .settings-in .ensures) (start .start .ensures))
+    (c .started2 .ensures)
     (else1 .if1 .left)
 
 pub start-spec : {M : Type 1} → statement M

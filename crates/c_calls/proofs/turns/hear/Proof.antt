@@ -6,9 +6,15 @@ use Rattle.c_calls.proofs.turns.hear.Tie as tie
 
 returns : tie.Need-returns
 returns c =
-    let f = c .before .before .before .before .before .before .before .before .before .before .before in
+    let after-low : tie.After-low = search depth 0 in
+    let f : tie.After-frame = search depth 0 in
+    let after-frame-arg2 : tie.After-frame-arg2 = search depth 0 in
+    let after-room-of : tie.After-room-of = search depth 0 in
+    let after-kept-in : tie.After-kept-in = search depth 0 in
+    let after-core-in : tie.After-core-in = search depth 0 in
     stands-held _
-    (rw (← f .before .before .before .before .before .before .before .before .before .before .before .core-in .ensures, ← f .before .before .before .before .before .before .before .before .before .before .kept-in .ensures, ← f .before .before .before .before .before .before .before .before .before .room-of .ensures) (f .frame .ensures))
+    (rw (← after-core-in .core-in .ensures, ← after-kept-in .kept-in .ensures, ← after-room-of .room-of .ensures)
+    (f .frame .ensures))
     (c .answer .ensures)
 
 pub hear-spec : {M : Type 1} → statement M

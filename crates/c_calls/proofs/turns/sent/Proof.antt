@@ -6,8 +6,13 @@ use Rattle.c_calls.proofs.turns.sent.Tie as tie
 
 returns : tie.Need-returns
 returns c =
-    let f = c .before .before .before .before .before .before .before .before .before .before .before in
-    stands-held _ (rw (← f .before .before .before .before .before .before .before .before .core-in .ensures, ← f .before .before .before .before .before .before .before .kept-in .ensures) (f .sent .ensures .told _ _)) (c .answer .ensures)
+    let after-low : tie.After-low = search depth 0 in
+    let f : tie.After-sent = search depth 0 in
+    let after-kept-in : tie.After-kept-in = search depth 0 in
+    let after-core-in : tie.After-core-in = search depth 0 in
+    stands-held _
+    (rw (← after-core-in .core-in .ensures, ← after-kept-in .kept-in .ensures) (f .sent .ensures .told _ _))
+    (c .answer .ensures)
 
 pub sent-spec : {M : Type 1} → statement M
 sent-spec =

@@ -6,8 +6,14 @@ use Rattle.c_calls.proofs.turns.slot.Tie as tie
 
 returns : tie.Need-returns
 returns c =
-    let f = c .before .before .before .before .before .before .before .before .before .before .before in
-    stands-held _ (rw (← f .before .before .before .before .before .before .before .before .before .core-in .ensures, ← f .before .before .before .before .before .before .before .before .kept-in .ensures) (f .slot .ensures .told _ _)) (c .answer .ensures)
+    let after-low : tie.After-low = search depth 0 in
+    let f : tie.After-slot = search depth 0 in
+    let after-slot-arg : tie.After-slot-arg = search depth 0 in
+    let after-kept-in : tie.After-kept-in = search depth 0 in
+    let after-core-in : tie.After-core-in = search depth 0 in
+    stands-held _
+    (rw (← after-core-in .core-in .ensures, ← after-kept-in .kept-in .ensures) (f .slot .ensures .told _ _))
+    (c .answer .ensures)
 
 pub slot-spec : {M : Type 1} → statement M
 slot-spec =
