@@ -3,6 +3,7 @@ ghost use mathlib.Core.Path.{_≡_};
 ghost use Prim.Native.Nat.{_<_, _≤_};
 ghost use lib.ListN.{length};
 ghost use Rattle.frame.specs.Reading.{read as Reading·read};
+ghost use Rattle.queue.specs.Queue.{AREA};
 ghost use Rattle.state.specs.World.{rows, siteOf, queueOf};
 ghost use Rattle.state.specs.Request.{judged};
 ghost use Rattle.state.specs.Hold.{concluded};
@@ -113,7 +114,7 @@ fn good(
     out: &mut [u8],
 ) -> Moved
     requires { ⌜ (Sited c (rows (now high) (now harea)) (rows (now low) (now larea)))
-        × ((0 < queueOf (c .doing .served) c .unconfirmed) × ((length (now x) ≤ 246) × (255 ≤ length (now out)))) ⌝ }
+        × ((0 < queueOf (c .doing .served) c .unconfirmed) × ((length (now x) ≤ AREA) × (255 ≤ length (now out)))) ⌝ }
     ensures { λ r. ⌜ Does
         (concluded (clock .0) (now (x .entry))
         (judged (c .ts .0) (inFlight c (now (high .entry)) (now (low .entry))) f n)

@@ -9,6 +9,7 @@ ghost use Rattle.choice.specs.Choice.{pick};
 ghost use Rattle.frame.specs.Reading.{part};
 ghost use Rattle.laid.specs.Laid.{Lays};
 ghost use Rattle.typed.specs.Digits.{shown as Digits·shown};
+ghost use Rattle.queue.specs.Queue.{AREA};
 ghost use Rattle.printed.specs.Numeral.{numeral};
 ghost use Rattle.printed.specs.Printed.{spaced, newline, comma, w-ok, serviceWord, statusWord, phaseWord, pointWord};
 ghost use Rattle.printed.specs.Printed.{collectedLine, joined as Printed·joined, nsOf, shownLine};
@@ -102,12 +103,12 @@ fn ending(
     ensures { λ r. ⌜ Lays (now (out .entry)) at
         (spaced (statusWord state) ++
         (spaced (numeral count) ++
-        (spaced (Digits·shown (part (now (area .entry)) (246 * place) size)) ++ newline))) 521 r
+        (spaced (Digits·shown (part (now (area .entry)) (AREA * place) size)) ++ newline))) 521 r
         (now (out .exit)) ⌝ }
 {
     let second = status(state, out, at);
     let third = phrases::number(count, out, second);
-    let start = 246 * place as usize;
+    let start = queue::AREA * place as usize;
     let fourth = phrases::octets(area, start, size as usize, out, third);
     laid::lay(b"\n", out, fourth)
 }
@@ -136,7 +137,7 @@ fn row(
         (spaced (pointWord from) ++
         (spaced (statusWord state) ++
         (spaced (numeral count) ++
-        (spaced (Digits·shown (part (now (area .entry)) (246 * place) size)) ++
+        (spaced (Digits·shown (part (now (area .entry)) (AREA * place) size)) ++
         newline))))))))) 600 r (now (out .exit)) ⌝ }
 {
     let second = laid::lay(b"ok", out, at);

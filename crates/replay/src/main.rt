@@ -1,6 +1,6 @@
-// Replay: reads a replay script on standard input to its end, a block at a time, and answers each line as soon as it is
-// whole. What a line does and prints is `desk::answer`, which lines there are is `typed_lines::gather`; here they are called in
-// turn, in memory that does not grow with the script.
+// Replay: reads a replay script on standard input to its end, a block at a time, and answers each line as soon as it
+// is whole. What a line does and prints is `desk::answer`, which lines there are is `typed_lines::gather`; here they
+// are called in turn, in memory that does not grow with the script.
 ghost use mathlib.Core.Path.{_≡_};
 ghost use lib.ListN.{length};
 ghost use Rattle.desk.specs.Desk.{Few, Arrays};
@@ -9,6 +9,11 @@ ghost use Rattle.replay.specs.Replay.{Ready};
 use desk::Held;
 use libc::STDIN_FILENO;
 use libc::STDOUT_FILENO;
+
+// A row of as many places as a queue may have, and its data area.
+const ROW: usize = request::SIZE * queue::PLACES;
+
+const AREA: usize = queue::AREA * queue::PLACES;
 
 // What is held between blocks: what replay holds, and how many octets of the line at hand are kept.
 struct Pending {
@@ -116,10 +121,10 @@ fn serve(
 fn main() {
     let mut block = io::buffer();
     let mut line = [0u8; 4097];
-    let mut high = [0u8; 448];
-    let mut harea = [0u8; 15744];
-    let mut low = [0u8; 448];
-    let mut larea = [0u8; 15744];
+    let mut high = [0u8; ROW];
+    let mut harea = [0u8; AREA];
+    let mut low = [0u8; ROW];
+    let mut larea = [0u8; AREA];
     let mut text = [0u8; 8192];
     serve(
         &mut block,
