@@ -31,7 +31,8 @@ lines-cut : (s : List ℕ) (i left at : ℕ) → length s - at < lengthOf s i �
 unfolding lines
 lines-cut s i left at h = pick-true endShort _ (less-true h)
 
-lines-more : (s : List ℕ) (i left at : ℕ) → lengthOf s i ≤ length s - at → lines s i (suc left) at ≡ line i (part s at (lengthOf s i)) ++ lines s (i + 1) left (at + lengthOf s i)
+lines-more : (s : List ℕ) (i left at : ℕ) → lengthOf s i ≤ length s - at
+    → lines s i (suc left) at ≡ line i (part s at (lengthOf s i)) ++ lines s (i + 1) left (at + lengthOf s i)
 unfolding lines
 lines-more s i left at h = pick-false endShort _ (less-false h)
 
@@ -39,7 +40,8 @@ left-suc : (count i : ℕ) → i < count → count - i ≡ suc (count - (i + 1))
 left-suc count i h = omega arith
 
 -- ---- the walk
-pub walked-none : (s : List ℕ) (count : ℕ) (out : List ℕ) → bodiesAt count ≤ length s → Walked s count out out (bodiesAt count) 0 0
+pub walked-none : (s : List ℕ) (count : ℕ) (out : List ℕ) → bodiesAt count ≤ length s
+    → Walked s count out out (bodiesAt count) 0 0
 walked-none s count out h =
     record {
       text = [];
@@ -49,7 +51,8 @@ walked-none s count out h =
       inside = h;
     }
 
-module _ (s : List ℕ) (count : ℕ) (out₀ out : List ℕ) (at i w : ℕ) (room : 34 * count + 10 ≤ length out₀) (x : Walked s count out₀ out at i w) where
+module _ (s : List ℕ) (count : ℕ) (out₀ out : List ℕ) (at i w : ℕ) (room : 34 * count + 10 ≤ length out₀)
+    (x : Walked s count out₀ out at i w) where
   -- the output is as long as it was, and has room for the next line
   pub walked-length : length out ≡ length out₀
   walked-length =
@@ -58,27 +61,35 @@ module _ (s : List ℕ) (count : ℕ) (out₀ out : List ℕ) (at i w : ℕ) (ro
   pub walked-room : (b : ℕ) → 34 * i + b ≤ 34 * count + 10 → w + b ≤ length out
   walked-room b h = omega (arith, walked-length, x .laid .place, x .laid .near)
 
-  pub walked-more : (w′ : ℕ) (out′ : List ℕ) → i < count → lengthOf s i ≤ length s - at → Lays out w (line i (part s at (lengthOf s i))) 34 w′ out′ → Walked s count out₀ out′ (at + lengthOf s i) (i + 1) w′
+  pub walked-more : (w′ : ℕ) (out′ : List ℕ) → i < count → lengthOf s i ≤ length s - at
+      → Lays out w (line i (part s at (lengthOf s i))) 34 w′ out′
+      → Walked s count out₀ out′ (at + lengthOf s i) (i + 1) w′
   walked-more w′ out′ h n y =
       let l : List ℕ = line i (part s at (lengthOf s i)) in
       record {
         text = x .text ++ l;
         laid = lays-within (34 * (i + 1)) (omega arith) (lays-then (omega arith) (x .laid) y);
-        rest = append-assoc (x .text) l _ ∙ ap (λ (r : List ℕ). x .text ++ r) (sym (ap (λ (k : ℕ). lines s i k at) (left-suc count i h) ∙ lines-more s i _ at n)) ∙ x .rest;
+        rest =
+            append-assoc (x .text) l _ ∙ ap (λ (r : List ℕ). x .text ++ r)
+            (sym (ap (λ (k : ℕ). lines s i k at) (left-suc count i h) ∙ lines-more s i _ at n)) ∙ x .rest;
         among = omega arith;
         inside = omega (arith, x .inside);
       }
 
   -- the walk's end: what is laid last is all that was to come
-  walked-end : (e : List ℕ) (r : ℕ) (out′ : List ℕ) → lines s i (count - i) at ≡ e → Lays out w e 10 r out′ → Lays out₀ 0 (whole s count) (34 * count + 10) r out′
+  walked-end : (e : List ℕ) (r : ℕ) (out′ : List ℕ) → lines s i (count - i) at ≡ e → Lays out w e 10 r out′
+      → Lays out₀ 0 (whole s count) (34 * count + 10) r out′
   walked-end e r out′ q y =
-      rw (← x .rest, q) (lays-within (34 * count + 10) (omega (arith, x .among)) (lays-then (omega (arith, x .among)) (x .laid) y))
+      rw (← x .rest, q)
+      (lays-within (34 * count + 10) (omega (arith, x .among)) (lays-then (omega (arith, x .among)) (x .laid) y))
 
-  pub walked-cut : (r : ℕ) (out′ : List ℕ) → i < count → length s - at < lengthOf s i → Lays out w endShort 10 r out′ → Lays out₀ 0 (whole s count) (34 * count + 10) r out′
+  pub walked-cut : (r : ℕ) (out′ : List ℕ) → i < count → length s - at < lengthOf s i → Lays out w endShort 10 r out′
+      → Lays out₀ 0 (whole s count) (34 * count + 10) r out′
   walked-cut r out′ h n y =
       walked-end endShort r out′ (ap (λ (k : ℕ). lines s i k at) (left-suc count i h) ∙ lines-cut s i _ at n) y
 
-  pub walked-last : (r : ℕ) (out′ : List ℕ) → count ≤ i → Lays out w (last s at) 10 r out′ → Lays out₀ 0 (whole s count) (34 * count + 10) r out′
+  pub walked-last : (r : ℕ) (out′ : List ℕ) → count ≤ i → Lays out w (last s at) 10 r out′
+      → Lays out₀ 0 (whole s count) (34 * count + 10) r out′
   unfolding lines
   walked-last r out′ h y =
       walked-end (last s at) r out′ (ap (λ (k : ℕ). lines s i k at) (left-none (x .among))) y
@@ -87,7 +98,8 @@ module _ (s : List ℕ) (count : ℕ) (out₀ out : List ℕ) (at i w : ℕ) (ro
       left-none g = omega arith
 
 -- what is laid at the start of an output with room is the listing: what `list` answers, and leaves
-pub listed-laid : (s out e : List ℕ) (b r : ℕ) (m : List ℕ) → ROOM ≤ length out → b ≤ ROOM → e ≡ listing s → Lays out 0 e b r m → (r ≡ listed s out) × ((m ≡ left s out) × (r ≤ length m))
+pub listed-laid : (s out e : List ℕ) (b r : ℕ) (m : List ℕ) → ROOM ≤ length out → b ≤ ROOM → e ≡ listing s
+    → Lays out 0 e b r m → (r ≡ listed s out) × ((m ≡ left s out) × (r ≤ length m))
 unfolding listed left
 listed-laid s out e b r m h g q x =
     let k : length m ≡ length out = ap length (x .left) ∙ length-laid out 0 e (omega (arith, x .near)) in (

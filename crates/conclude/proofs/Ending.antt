@@ -18,56 +18,77 @@ use Rattle.state.specs.Told.{Closes, Does, telling, adds, untold}
 use Rattle.serve.proofs.Telling.{lays-nothing}
 
 -- ---- slot expiry and the like: below the limit the same again, and then the request is lost
-pub retry-lost : (clock : ℕ) (s : Site) → s .core .settings .retries .0 < s .core .doing .sendings → retry clock s ≡ ended Lost [] clock s
+pub retry-lost : (clock : ℕ) (s : Site) → s .core .settings .retries .0 < s .core .doing .sendings
+    → retry clock s ≡ ended Lost [] clock s
 unfolding retry
 retry-lost clock s h = sym (if-less _ h refl)
 
-pub retry-again : (clock : ℕ) (s : Site) → s .core .doing .sendings ≤ s .core .settings .retries .0 → retry clock s ≡ again s
+pub retry-again : (clock : ℕ) (s : Site) → s .core .doing .sendings ≤ s .core .settings .retries .0
+    → retry clock s ≡ again s
 unfolding retry
 retry-again clock s h = sym (unless-less _ h refl)
 
 module _ {out out′ : List ℕ} {r : Moved} {masters marks : List ℕ} {high low : Rows} where
   -- ---- an act behind a confirmation, which tells nothing
-  does-closed-of : (p : Priority) (o : Outcome) (x : List ℕ) (s : Site) (f : Site → Done) → Does (f (closeOf p o x s .site)) out r masters marks high low out′ → Does (andThen (closeOf p o x s) f) out r masters marks high low out′
+  does-closed-of : (p : Priority) (o : Outcome) (x : List ℕ) (s : Site) (f : Site → Done)
+      → Does (f (closeOf p o x s .site)) out r masters marks high low out′
+      → Does (andThen (closeOf p o x s) f) out r masters marks high low out′
   unfolding andThen closeOf done telling adds
   does-closed-of p o x s f d = record { site = d .site; wait = d .wait; laid = d .laid }
 
-  does-closed : (o : Outcome) (x : List ℕ) (s : Site) (f : Site → Done) → Does (f (close o x s .site)) out r masters marks high low out′ → Does (andThen (close o x s) f) out r masters marks high low out′
+  does-closed : (o : Outcome) (x : List ℕ) (s : Site) (f : Site → Done)
+      → Does (f (close o x s .site)) out r masters marks high low out′
+      → Does (andThen (close o x s) f) out r masters marks high low out′
   unfolding close
   does-closed o x s f d = does-closed-of (s .core .doing .served) o x s f d
 
   -- ---- by what the code of the confirmation leaves
-  module _ {o : Outcome} {x : List ℕ} {c : Core} {marks₀ : List ℕ} {high₀ low₀ : Rows} {c′ : Core} (k : Closes o x c marks₀ high₀ low₀ c′ marks high low) where
-    after : (f : Site → Done) → Does (f (siteOf c′ masters marks high low)) out r masters marks high low out′ → Does (f (close o x (siteOf c masters marks₀ high₀ low₀) .site)) out r masters marks high low out′
+  module _ {o : Outcome} {x : List ℕ} {c : Core} {marks₀ : List ℕ} {high₀ low₀ : Rows} {c′ : Core}
+      (k : Closes o x c marks₀ high₀ low₀ c′ marks high low) where
+    after : (f : Site → Done) → Does (f (siteOf c′ masters marks high low)) out r masters marks high low out′
+        → Does (f (close o x (siteOf c masters marks₀ high₀ low₀) .site)) out r masters marks high low out′
     after f d = rw (← k .site masters) d
 
-    pub does-ended : (clock : ℕ) → Does (choose false clock (siteOf c′ masters marks high low)) out r masters marks high low out′ → Does (ended o x clock (siteOf c masters marks₀ high₀ low₀)) out r masters marks high low out′
+    pub does-ended : (clock : ℕ)
+        → Does (choose false clock (siteOf c′ masters marks high low)) out r masters marks high low out′
+        → Does (ended o x clock (siteOf c masters marks₀ high₀ low₀)) out r masters marks high low out′
     unfolding ended
-    does-ended clock d = does-closed o x (siteOf c masters marks₀ high₀ low₀) (choose false clock) (after (choose false clock) d)
+    does-ended clock d =
+        does-closed o x (siteOf c masters marks₀ high₀ low₀) (choose false clock) (after (choose false clock) d)
 
-    does-after-over : Does (over (siteOf c′ masters marks high low)) out r masters marks high low out′ → Does (andThen (close o x (siteOf c masters marks₀ high₀ low₀)) over) out r masters marks high low out′
+    does-after-over : Does (over (siteOf c′ masters marks high low)) out r masters marks high low out′
+        → Does (andThen (close o x (siteOf c masters marks₀ high₀ low₀)) over) out r masters marks high low out′
     does-after-over d = does-closed o x (siteOf c masters marks₀ high₀ low₀) over (after over d)
 
-  pub does-given-up : {c : Core} {marks₀ : List ℕ} {high₀ low₀ : Rows} {c′ : Core} → Closes Lost [] c marks₀ high₀ low₀ c′ marks high low → Does (over (siteOf c′ masters marks high low)) out r masters marks high low out′ → Does (givenUp (siteOf c masters marks₀ high₀ low₀)) out r masters marks high low out′
+  pub does-given-up : {c : Core} {marks₀ : List ℕ} {high₀ low₀ : Rows} {c′ : Core}
+      → Closes Lost [] c marks₀ high₀ low₀ c′ marks high low
+      → Does (over (siteOf c′ masters marks high low)) out r masters marks high low out′
+      → Does (givenUp (siteOf c masters marks₀ high₀ low₀)) out r masters marks high low out′
   unfolding givenUp
   does-given-up k d = does-after-over k d
 
   -- ---- what a good frame is to the request
   module _ (clock : ℕ) (x : List ℕ) (v : Verdict) (s : Site) where
-    pub does-plausible : (n : ℕ) → v ≡ Plausible n → Does (ended (Replied n) x clock s) out r masters marks high low out′ → Does (concluded clock x v s) out r masters marks high low out′
+    pub does-plausible : (n : ℕ) → v ≡ Plausible n
+        → Does (ended (Replied n) x clock s) out r masters marks high low out′
+        → Does (concluded clock x v s) out r masters marks high low out′
     unfolding concluded
     does-plausible n e d = rw e d
 
-    pub does-vain : v ≡ Vain → Does (retry clock s) out r masters marks high low out′ → Does (concluded clock x v s) out r masters marks high low out′
+    pub does-vain : v ≡ Vain → Does (retry clock s) out r masters marks high low out′
+        → Does (concluded clock x v s) out r masters marks high low out′
     unfolding concluded
     does-vain e d = rw e d
 
-    pub does-foreign : v ≡ Foreign → Does (givenUp s) out r masters marks high low out′ → Does (concluded clock x v s) out r masters marks high low out′
+    pub does-foreign : v ≡ Foreign → Does (givenUp s) out r masters marks high low out′
+        → Does (concluded clock x v s) out r masters marks high low out′
     unfolding concluded
     does-foreign e d = rw e d
 
 -- the hold is over: nothing is sent
-pub does-over : (c : Core) (masters marks : List ℕ) (high low : Rows) (out : List ℕ) {r : Moved} → r .core ≡ withDoing (resting (c .doing)) c → r .length ≡ 0 → r .wait .0 ≡ 0 → Does (over (siteOf c masters marks high low)) out r masters marks high low out
+pub does-over : (c : Core) (masters marks : List ℕ) (high low : Rows) (out : List ℕ) {r : Moved}
+    → r .core ≡ withDoing (resting (c .doing)) c → r .length ≡ 0 → r .wait .0 ≡ 0
+    → Does (over (siteOf c masters marks high low)) out r masters marks high low out
 unfolding over rest withCore done telling adds untold
 does-over c masters marks high low out e f g =
     record {

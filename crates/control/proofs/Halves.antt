@@ -48,7 +48,8 @@ right : ℕ → Bool
 right n = alike (byHalves n) (listed n)
 
 computed : T (below right 256)
-unfolding right byHalves listed fc controlOf serviceOf codeOf typeOf bit lawful replied requested numbered pick same less said
+unfolding right byHalves listed fc controlOf serviceOf codeOf typeOf bit lawful replied requested numbered pick same
+    less said
 computed = tt
 
 pub halves : (n : ℕ) → n < 256 → byHalves n ≡ listed n

@@ -192,8 +192,7 @@ pub begun-given : (line : List ℕ) (h : Held) (high harea low larea text : List
     → Answers (starting (startBy line) (highOf line) (lowOf line) (deskOf h high harea low larea)) text
     (record {
       held = record { begun = true; high = highOf line; low = lowOf line; state = r .state };
-      length =
-          n;
+      length = n;
     }) (zeros (length high)) (zeros (length harea)) (zeros (length low)) (zeros (length larea))
     text′
 begun-given line h high harea low larea text w e r x =

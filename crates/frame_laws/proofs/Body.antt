@@ -217,7 +217,8 @@ module _ (b : List ℕ) (w : Sound b) where
   to-named = named b _ 3 63 (w .least) (w .to)
 
   from-named :
-      Named b (accessOf b (octet b 1) (3 + extensions (octet b 0))) (extensions (octet b 1)) (3 + extensions (octet b 0)) 62
+      Named b (accessOf b (octet b 1) (3 + extensions (octet b 0))) (extensions (octet b 1))
+      (3 + extensions (octet b 0)) 62
   from-named = named b _ _ 62 (to-named .within) (w .from)
 
   pub data-within : dataAt b ≤ length b

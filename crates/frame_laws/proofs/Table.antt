@@ -288,11 +288,13 @@ token-left : (s : List ℕ) → octet s 0 ≡ SD4
     (pick (eqb (octet s 2 % 128) 127 || eqb (octet s 1 % 128) 127 || (leb 0x80 (octet s 1) || leb 0x80 (octet s 2))) 8
     (pick (eqb (octet s 1 % 128) 127) 11
     0))
-unfolding is framed addressed count first DA SA address announces noStart cutSd2 badLe wrongCount wrongEnd wrongSum badAddress badControl badExtension forAll same pick
+unfolding is framed addressed count first DA SA address announces noStart cutSd2 badLe wrongCount wrongEnd wrongSum
+    badAddress badControl badExtension forAll same pick
 token-left s h = rw (h, and-true)
 
 short-left : (s : List ℕ) → octet s 0 ≡ SC → from2 s ≡ pick (not (same (length s) 1)) 5 0
-unfolding is framed addressed count noStart cutSd2 badLe wrongCount wrongEnd wrongSum badAddress badControl badExtension forAll same pick
+unfolding is framed addressed count noStart cutSd2 badLe wrongCount wrongEnd wrongSum badAddress badControl
+    badExtension forAll same pick
 short-left s h = rw h
 
 token-rows : (s : List ℕ) → octet s 0 ≡ SD4 → refusal (readToken s) ≡ from2 s

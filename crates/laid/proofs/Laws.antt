@@ -31,7 +31,8 @@ laid-laid l i u w h =
     let k : ℕ = i + length u in
     let p : List ℕ = take i l ++ u in
     let q : List ℕ = drop k l in
-    let e : length p ≡ k = length-append (take i l) u ∙ ap (λ (n : ℕ). n + length u) (length-take-le i l (omega arith)) in
+    let e : length p ≡ k = length-append (take i l) u ∙ ap (λ (n : ℕ). n + length u)
+    (length-take-le i l (omega arith)) in
     rw (← append-assoc (take i l) u q, take-at p q k e)
     (rw (← drop-drop (length w) k (p ++ q), drop-at p q k e, drop-drop (length w) k l)
     (rw (append-assoc (take i l) u, append-assoc u w, length-append u w, add-assoc i (length u) (length w))))
@@ -42,7 +43,8 @@ laid-behind l m i j u w h e f = rw (e, f) (laid-laid l i u w h)
 
 -- x copied into the part from i on: p is what `bytes::copy` left of that part
 pub laid-copied : (l : List ℕ) (i : ℕ) (x p : List ℕ) → i + length x ≤ length l
-    → p ≡ take (length x) x ++ drop (length x) (take (length l - i) (drop i l)) → putMid i (length l - i) l p ≡ laid l i x
+    → p ≡ take (length x) x ++ drop (length x) (take (length l - i) (drop i l))
+    → putMid i (length l - i) l p ≡ laid l i x
 unfolding laid
 laid-copied l i x p h e =
     let a : length (drop i l) ≤ length l - i = omega (arith, length-drop i l) in
@@ -56,13 +58,15 @@ length-laid l i u h =
     simp (length-append, length-drop) (omega (arith, length-take-le i l (omega arith)))
 
 -- what stands before and behind the piece
-pub take-laid : (l : List ℕ) (i : ℕ) (u : List ℕ) → i + length u ≤ length l → take (i + length u) (laid l i u) ≡ take i l ++ u
+pub take-laid : (l : List ℕ) (i : ℕ) (u : List ℕ) → i + length u ≤ length l
+    → take (i + length u) (laid l i u) ≡ take i l ++ u
 unfolding laid
 take-laid l i u h =
     rw (← append-assoc (take i l) u (drop (i + length u) l))
     (take-at (take i l ++ u) _ (i + length u) (simp length-append (omega (arith, length-take-le i l (omega arith)))))
 
-pub drop-laid : (l : List ℕ) (i : ℕ) (u : List ℕ) → i + length u ≤ length l → drop (i + length u) (laid l i u) ≡ drop (i + length u) l
+pub drop-laid : (l : List ℕ) (i : ℕ) (u : List ℕ) → i + length u ≤ length l
+    → drop (i + length u) (laid l i u) ≡ drop (i + length u) l
 unfolding laid
 drop-laid l i u h =
     rw (← append-assoc (take i l) u (drop (i + length u) l))
@@ -76,7 +80,8 @@ lays-room {l} {u} {m} {at} {a} {r} b h x =
     omega (arith, x .place, x .near)
 
 -- a step behind a step is one step
-pub lays-then : {l u m w n : List ℕ} {at a b r q : ℕ} → at + (a + b) ≤ length l → Lays l at u a r m → Lays m r w b q n → Lays l at (u ++ w) (a + b) q n
+pub lays-then : {l u m w n : List ℕ} {at a b r q : ℕ} → at + (a + b) ≤ length l → Lays l at u a r m → Lays m r w b q n
+    → Lays l at (u ++ w) (a + b) q n
 lays-then {l} {u} {m} {w} {n} {at} {a} {b} {r} {q} h x y =
     record {
       place = simp length-append (omega (arith, x .place, y .place));
@@ -89,7 +94,8 @@ pub lays-within : {l u m : List ℕ} {at a r : ℕ} (b : ℕ) → a ≤ b → La
 lays-within b h x = record { place = x .place; left = x .left; near = omega (arith, x .near) }
 
 -- stores in a row are a step
-pub lays-sets : (l : List ℕ) (at : ℕ) (u : List ℕ) (a r : ℕ) (m : List ℕ) → at + length u ≤ length l → length u ≤ a → r ≡ at + length u → m ≡ sets l at u → Lays l at u a r m
+pub lays-sets : (l : List ℕ) (at : ℕ) (u : List ℕ) (a r : ℕ) (m : List ℕ) → at + length u ≤ length l → length u ≤ a
+    → r ≡ at + length u → m ≡ sets l at u → Lays l at u a r m
 lays-sets l at u a r m h n p e = record { place = p; left = e ∙ laid-sets l at u h; near = n }
 
 -- three steps in a row

@@ -11,10 +11,12 @@ use Rattle.laid.specs.Laid.{laid}
 use Rattle.laid.proofs.Laws.{drop-laid}
 
 -- ---- inside the piece
-pub laid-octet : (l : List ℕ) (i : ℕ) (u : List ℕ) (k : ℕ) → i ≤ length l → k < length u → getD (laid l i u) (i + k) 0 ≡ getD u k 0
+pub laid-octet : (l : List ℕ) (i : ℕ) (u : List ℕ) (k : ℕ) → i ≤ length l → k < length u
+    → getD (laid l i u) (i + k) 0 ≡ getD u k 0
 unfolding laid
 laid-octet l i u k h n =
-    rw (length-take-le i l h) at (getD-append-add (take i l) (u ++ drop (i + length u) l) k 0) ∙ List·getD-append u _ 0 k n
+    rw (length-take-le i l h) at (getD-append-add (take i l) (u ++ drop (i + length u) l) k 0) ∙ List·getD-append u _
+    0 k n
 
 pub laid-part : (l : List ℕ) (i : ℕ) (u : List ℕ) → i ≤ length l → take (length u) (drop i (laid l i u)) ≡ u
 unfolding laid
@@ -33,24 +35,30 @@ part-append : (p w : List ℕ) (j n : ℕ) → j + n ≤ length p → take n (dr
 part-append p w j n h =
     rw (drop-append-le j p w (omega arith)) (take-append-le n (drop j p) w (simp length-drop (omega arith)))
 
-pub before-part : (l : List ℕ) (i : ℕ) (u : List ℕ) (j n : ℕ) → i ≤ length l → j + n ≤ i → take n (drop j (laid l i u)) ≡ take n (drop j l)
+pub before-part : (l : List ℕ) (i : ℕ) (u : List ℕ) (j n : ℕ) → i ≤ length l → j + n ≤ i
+    → take n (drop j (laid l i u)) ≡ take n (drop j l)
 unfolding laid
 before-part l i u j n h m =
     let e : j + n ≤ length (take i l) = omega (arith, length-take-le i l h) in
     part-append (take i l) _ j n e
-    ∙ sym (ap (λ (x : List ℕ). take n (drop j x)) (sym (take-append-drop i l)) ∙ part-append (take i l) (drop i l) j n e)
+    ∙ sym
+    (ap (λ (x : List ℕ). take n (drop j x)) (sym (take-append-drop i l)) ∙ part-append (take i l) (drop i l) j n e)
 
 -- ---- behind it
-behind : (l : List ℕ) (i : ℕ) (u : List ℕ) (j : ℕ) → i + length u ≤ length l → i + length u ≤ j → drop j (laid l i u) ≡ drop j l
+behind : (l : List ℕ) (i : ℕ) (u : List ℕ) (j : ℕ) → i + length u ≤ length l → i + length u ≤ j
+    → drop j (laid l i u) ≡ drop j l
 behind l i u j h n =
     let k : ℕ = i + length u in
     let e : k + (j - k) ≡ j = omega arith in
     rw e at (sym (drop-drop (j - k) k (laid l i u)) ∙ ap (drop (j - k)) (drop-laid l i u h) ∙ drop-drop (j - k) k l)
 
-pub behind-octet : (l : List ℕ) (i : ℕ) (u : List ℕ) (j : ℕ) → i + length u ≤ length l → i + length u ≤ j → getD (laid l i u) j 0 ≡ getD l j 0
+pub behind-octet : (l : List ℕ) (i : ℕ) (u : List ℕ) (j : ℕ) → i + length u ≤ length l → i + length u ≤ j
+    → getD (laid l i u) j 0 ≡ getD l j 0
 behind-octet l i u j h n =
     let e : j + 0 ≡ j = omega arith in
-    rw e at (sym (getD-drop j (laid l i u) 0 0) ∙ ap (λ (x : List ℕ). getD x 0 0) (behind l i u j h n) ∙ getD-drop j l 0 0)
+    rw e at
+    (sym (getD-drop j (laid l i u) 0 0) ∙ ap (λ (x : List ℕ). getD x 0 0) (behind l i u j h n) ∙ getD-drop j l 0 0)
 
-pub behind-part : (l : List ℕ) (i : ℕ) (u : List ℕ) (j n : ℕ) → i + length u ≤ length l → i + length u ≤ j → take n (drop j (laid l i u)) ≡ take n (drop j l)
+pub behind-part : (l : List ℕ) (i : ℕ) (u : List ℕ) (j n : ℕ) → i + length u ≤ length l → i + length u ≤ j
+    → take n (drop j (laid l i u)) ≡ take n (drop j l)
 behind-part l i u j n h m = ap (take n) (behind l i u j h m)

@@ -64,7 +64,8 @@ module _ (clock : ℕ) (s : Site) {p : Phase} where
   sent-self e = rw e
 
 -- the record whose reply is awaited, by the row of its queue
-row-by : (p : Priority) (c : Core) (masters marks : List ℕ) (high low : Rows) → rowsOf p (siteOf c masters marks high low) .row ≡ rowBy p (high .row) (low .row)
+row-by : (p : Priority) (c : Core) (masters marks : List ℕ) (high low : Rows)
+    → rowsOf p (siteOf c masters marks high low) .row ≡ rowBy p (high .row) (low .row)
 unfolding rowsOf rowBy
 row-by High c masters marks high low = refl
 row-by Low c masters marks high low = refl
@@ -80,6 +81,8 @@ module _ (clock : ℕ) (s : List ℕ) (x : Site) {r : Answer} where
   unfolding awaitedRead
   awaited-bad e = rw e
 
-  pub awaited-good : {f : Fields} {p : Part} → r ≡ Read f p → awaitedRead clock s r x ≡ concluded clock (shown s p) (judged (x .core .ts .0) (recordOf (x .core .doing .served) x) f (p .count)) x
+  pub awaited-good : {f : Fields} {p : Part} → r ≡ Read f p
+      → awaitedRead clock s r x
+      ≡ concluded clock (shown s p) (judged (x .core .ts .0) (recordOf (x .core .doing .served) x) f (p .count)) x
   unfolding awaitedRead
   awaited-good e = rw e

@@ -50,43 +50,68 @@ module _ (s : State) (r o : Rows) where
   refused-beside Low n = record { events = refl; state = refl; own = refl; theirs = refl }
 
   stored-beside : (p : Priority) (t : Left Taken)
-      → Beside p o (called (done (withRows p (record { row = t .row; area = t .area }) (withCore (withQueue p (t .answer .queue) (lent p s r .site .core)) (lent p s r .site))) (accepted p (t .answer .place) ∷ [])) (lent p s r)) (called (done (withRows p (record { row = t .row; area = t .area }) (withCore (withQueue p (t .answer .queue) (beside p s r o .site .core)) (beside p s r o .site))) (accepted p (t .answer .place) ∷ [])) (beside p s r o))
+      → Beside p o
+      (called
+      (done
+      (withRows p (record { row = t .row; area = t .area })
+      (withCore (withQueue p (t .answer .queue) (lent p s r .site .core)) (lent p s r .site)))
+      (accepted p (t .answer .place) ∷ [])) (lent p s r))
+      (called
+      (done
+      (withRows p (record { row = t .row; area = t .area })
+      (withCore (withQueue p (t .answer .queue) (beside p s r o .site .core))
+      (beside p s r o .site))) (accepted p (t .answer .place) ∷ [])) (beside p s r o))
   unfolding called done withSite withRows withCore withQueue lent worldOf stateOf rowsOf
   stored-beside High t = record { events = refl; state = refl; own = refl; theirs = refl }
   stored-beside Low t = record { events = refl; state = refl; own = refl; theirs = refl }
 
-  untaken-beside : (p : Priority) (n : ℕ) → Beside p o (called (done (lent p s r .site) (refused n ∷ [])) (lent p s r)) (called (done (beside p s r o .site) (refused n ∷ [])) (beside p s r o))
+  untaken-beside : (p : Priority) (n : ℕ)
+      → Beside p o (called (done (lent p s r .site) (refused n ∷ [])) (lent p s r))
+      (called (done (beside p s r o .site) (refused n ∷ [])) (beside p s r o))
   unfolding called done withSite lent worldOf stateOf rowsOf
   untaken-beside High n = record { events = refl; state = refl; own = refl; theirs = refl }
   untaken-beside Low n = record { events = refl; state = refl; own = refl; theirs = refl }
 
   taken-beside : (p : Priority) (t : Left Taken)
-      → Beside p o (called (submitting p t (lent p s r .site)) (lent p s r)) (called (submitting p t (beside p s r o .site)) (beside p s r o))
+      → Beside p o (called (submitting p t (lent p s r .site)) (lent p s r))
+      (called (submitting p t (beside p s r o .site)) (beside p s r o))
   unfolding submitting
   taken-beside p t =
-      on-pick (λ (d e : Done). Beside p o (called d (lent p s r)) (called e (beside p s r o))) (same (t .answer .refused) 0) (stored-beside p t) (untaken-beside p (t .answer .refused))
+      on-pick (λ (d e : Done). Beside p o (called d (lent p s r)) (called e (beside p s r o)))
+      (same (t .answer .refused) 0) (stored-beside p t) (untaken-beside p (t .answer .refused))
 
   handed-beside : (p : Priority) (t : Collected)
-      → Beside p o (called (collecting p t (lent p s r .site)) (lent p s r)) (called (collecting p t (beside p s r o .site)) (beside p s r o))
+      → Beside p o (called (collecting p t (lent p s r .site)) (lent p s r))
+      (called (collecting p t (beside p s r o .site)) (beside p s r o))
   unfolding called collecting done withSite withCore withQueue lent worldOf stateOf rowsOf
   handed-beside High (Refused n) = record { events = refl; state = refl; own = refl; theirs = refl }
   handed-beside High (Handed k e q) = record { events = refl; state = refl; own = refl; theirs = refl }
   handed-beside Low (Refused n) = record { events = refl; state = refl; own = refl; theirs = refl }
   handed-beside Low (Handed k e q) = record { events = refl; state = refl; own = refl; theirs = refl }
 
-  submit-beside : (p : Priority) (n : Record) (x : List ℕ) → Beside p o (submit p n x (lent p s r)) (submit p n x (beside p s r o))
+  submit-beside : (p : Priority) (n : Record) (x : List ℕ)
+      → Beside p o (submit p n x (lent p s r)) (submit p n x (beside p s r o))
   unfolding submit lent worldOf rowsOf queueOf
-  submit-beside High n x = on-pick (Beside High o) _ (refused-beside High 21) (on-pick (Beside High o) _ (refused-beside High 29) (taken-beside High _))
-  submit-beside Low n x = on-pick (Beside Low o) _ (refused-beside Low 21) (on-pick (Beside Low o) _ (refused-beside Low 29) (taken-beside Low _))
+  submit-beside High n x =
+      on-pick (Beside High o) _ (refused-beside High 21)
+      (on-pick (Beside High o) _ (refused-beside High 29) (taken-beside High _))
+  submit-beside Low n x =
+      on-pick (Beside Low o) _ (refused-beside Low 21)
+      (on-pick (Beside Low o) _ (refused-beside Low 29) (taken-beside Low _))
 
   collect-beside : (p : Priority) → Beside p o (collect p (lent p s r)) (collect p (beside p s r o))
   unfolding collect lent worldOf rowsOf queueOf
-  collect-beside High = on-pick (Beside High o) _ (refused-beside High 21) (on-pick (Beside High o) _ (refused-beside High 29) (handed-beside High _))
-  collect-beside Low = on-pick (Beside Low o) _ (refused-beside Low 21) (on-pick (Beside Low o) _ (refused-beside Low 29) (handed-beside Low _))
+  collect-beside High =
+      on-pick (Beside High o) _ (refused-beside High 21)
+      (on-pick (Beside High o) _ (refused-beside High 29) (handed-beside High _))
+  collect-beside Low =
+      on-pick (Beside Low o) _ (refused-beside Low 21)
+      (on-pick (Beside Low o) _ (refused-beside Low 29) (handed-beside Low _))
 
 -- collect leaves the row
 module _ (s : State) (r : Rows) where
-  handed-keeps : (p : Priority) (t : Collected) → rowsOf p (called (collecting p t (lent p s r .site)) (lent p s r) .world .site) ≡ r
+  handed-keeps : (p : Priority) (t : Collected)
+      → rowsOf p (called (collecting p t (lent p s r .site)) (lent p s r) .world .site) ≡ r
   unfolding called collecting done withSite withCore lent worldOf rowsOf
   handed-keeps High (Refused n) = refl
   handed-keeps High (Handed k e q) = refl
@@ -101,15 +126,18 @@ module _ (s : State) (r : Rows) where
   pub collect-keeps : (p : Priority) → rowsOf p (collect p (lent p s r) .world .site) ≡ r
   unfolding collect
   collect-keeps p =
-      by-pick (λ (d : Called). rowsOf p (d .world .site) ≡ r) _ (refused-keeps p 21) (by-pick (λ (d : Called). rowsOf p (d .world .site) ≡ r) _ (refused-keeps p 29) (handed-keeps p _))
+      by-pick (λ (d : Called). rowsOf p (d .world .site) ≡ r) _ (refused-keeps p 21)
+      (by-pick (λ (d : Called). rowsOf p (d .world .site) ≡ r) _ (refused-keeps p 29) (handed-keeps p _))
 
 -- ---- what was left beside the other row
 abbrev pub leavesAt : Priority → Played → Rows → Rows → List ℕ → Leaves Played
 leavesAt High a r o text = leaves a r o text
 leavesAt Low a r o text = leaves a o r text
 
-played-beside : (p : Priority) (line : Called → List ℕ) (d e : Called) (text : List ℕ) {o : Rows} {a : Played} {r : Rows} {text′ : List ℕ}
-    → Beside p o d e → line e ≡ line d → booked a r text′ ≡ bookedOf p line d text → leavesAt p a r o text′ ≡ played line e text
+played-beside : (p : Priority) (line : Called → List ℕ) (d e : Called) (text : List ℕ) {o : Rows} {a : Played}
+    {r : Rows} {text′ : List ℕ}
+    → Beside p o d e → line e ≡ line d → booked a r text′ ≡ bookedOf p line d text
+    → leavesAt p a r o text′ ≡ played line e text
 unfolding printing playing bookedOf rowsOf
 played-beside High line d e text {o = o} b l x =
     rw (b .state, l, b .own, b .theirs) (ap (λ (y : Booked). leaves (y .answer) (y .rows) o (y .text)) x)
@@ -124,7 +152,8 @@ handed-line : (p : Priority) (o : Rows) (d e : Called) → Beside p o d e → ha
 unfolding handedOf
 handed-line p o d e b = rw (b .events, b .own)
 
-pub submitted-beside : (p : Priority) (s : State) (n : Record) (x : List ℕ) (r o : Rows) (text : List ℕ) {a : Played} {r′ : Rows} {text′ : List ℕ}
+pub submitted-beside : (p : Priority) (s : State) (n : Record) (x : List ℕ) (r o : Rows) (text : List ℕ) {a : Played}
+    {r′ : Rows} {text′ : List ℕ}
     → booked a r′ text′ ≡ bookedOf p plainOf (submit p n x (lent p s r)) text
     → leavesAt p a r′ o text′ ≡ played plainOf (submit p n x (beside p s r o)) text
 submitted-beside p s n x r o text h =

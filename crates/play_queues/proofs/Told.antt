@@ -26,7 +26,9 @@ unfolding submittedOf acceptedOf bookedOf plainOf
 submit-told p d text e x =
     let f = ap (λ (y : Left Accepted). plainLine (y .answer .refused)) e in
     rw (line-length x f, line-left x f)
-    (ap (λ (y : Left Accepted). booked (record { state = y .answer .state; length = length (plainOf d) }) (rows (y .row) (y .area)) (laid text 0 (plainOf d))) e)
+    (ap
+    (λ (y : Left Accepted). booked (record { state = y .answer .state; length = length (plainOf d) })
+    (rows (y .row) (y .area)) (laid text 0 (plainOf d))) e)
 
 -- the line of what collect handed back is that of what it told: the data lie where they lay
 handed-told : (p : Priority) (s : State) (r : Rows) {a : HandedBack} → a ≡ handedBackOf (collect p (lent p s r))
@@ -36,7 +38,8 @@ handed-told p s r e =
     rw (collect-keeps s r p) (ap (λ (y : HandedBack). handedLine (y .refused) (y .place) (y .entry) (r .area)) e)
 
 pub collect-told : (p : Priority) (s : State) (r : Rows) (text : List ℕ) {a : HandedBack} {text′ : List ℕ} {n : ℕ}
-    → a ≡ handedBackOf (collect p (lent p s r)) → Lays text 0 (handedLine (a .refused) (a .place) (a .entry) (r .area)) 8192 n text′
+    → a ≡ handedBackOf (collect p (lent p s r))
+    → Lays text 0 (handedLine (a .refused) (a .place) (a .entry) (r .area)) 8192 n text′
     → booked (record { state = a .state; length = n }) r text′ ≡ bookedOf p (handedOf p) (collect p (lent p s r)) text
 unfolding handedBackOf bookedOf
 collect-told p s r text e x =
@@ -52,4 +55,7 @@ unfolding resetOf printing playing plainOf
 reset-told d text e x =
     let f = ap (λ (y : Leaves Renewed). plainLine (y .answer .refused)) e in
     rw (line-length x f, line-left x f)
-    (ap (λ (y : Leaves Renewed). leaves {A = Played} (record { state = y .answer .state; length = length (plainOf d) }) (y .high) (y .low) (laid text 0 (plainOf d))) e)
+    (ap
+    (λ (y : Leaves Renewed). leaves {A = Played}
+    (record { state = y .answer .state; length = length (plainOf d) }) (y .high) (y .low)
+    (laid text 0 (plainOf d))) e)

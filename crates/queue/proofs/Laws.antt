@@ -20,7 +20,8 @@ unfolding overfull above
 ruled q e =
     let a = unrefused _ _ e in
     let b = granted _ _ (a .1) in
-    record { few = false-less _ _ (a .0); turn = true-less _ _ (b .0); used = false-less _ _ (sym (pick-itself _) ∙ b .1) }
+    record
+    { few = false-less _ _ (a .0); turn = true-less _ _ (b .0); used = false-less _ _ (sym (pick-itself _) ∙ b .1) }
 
 pub not-overfull : (q : Queue) → Ruled q → overfull q ≡ false
 unfolding overfull above
@@ -64,13 +65,15 @@ pub place-apart : (q : Queue) (k j : ℕ) → k < q .places → j < q .places �
 place-apart q k j h i e = apart h i (turned q k) (turned q j) e
 
 -- the next place is one on, and behind the row's last comes its first
-turn : {q : Queue} {k p s : ℕ} → Ruled q → k < q .places → Turned q k p → Turned q (k + 1) s → s ≡ pick (less (p + 1) (q .places)) (p + 1) 0
+turn : {q : Queue} {k p s : ℕ} → Ruled q → k < q .places → Turned q k p → Turned q (k + 1) s
+    → s ≡ pick (less (p + 1) (q .places)) (p + 1) 0
 turn r h (short a e) (short b f) = if-less _ (omega arith) (omega arith)
 turn r h (short a e) (past b f) = unless-less _ (omega arith) (omega arith)
 turn r h (past a e) (short b f) = absurd (omega arith)
 turn r h (past a e) (past b f) = if-less _ (omega (arith, r .turn)) (omega arith)
 
-pub place-turn : (q : Queue) (k : ℕ) → Ruled q → k < q .places → place q (k + 1) ≡ pick (less (place q k + 1) (q .places)) (place q k + 1) 0
+pub place-turn : (q : Queue) (k : ℕ) → Ruled q → k < q .places
+    → place q (k + 1) ≡ pick (less (place q k + 1) (q .places)) (place q k + 1) 0
 place-turn q k r h = turn r h (turned q k) (turned q (k + 1))
 
 -- ---- the acts
@@ -96,7 +99,8 @@ unfolding place confirmed
 place-confirmed q k = refl
 
 -- the queue that begins one place on counts its places from there
-shifted : {q : Queue} {k p s : ℕ} → Ruled q → k < q .places → Turned (freed q) k p → Turned q 1 (freed q .first) → Turned q (k + 1) s → p ≡ s
+shifted : {q : Queue} {k p s : ℕ} → Ruled q → k < q .places → Turned (freed q) k p → Turned q 1 (freed q .first)
+    → Turned q (k + 1) s → p ≡ s
 unfolding freed
 shifted r h (short a e) (short b f) (short d g) = omega arith
 shifted r h (short a e) (short b f) (past d g) = omega arith
@@ -121,7 +125,8 @@ pub data Decided (ts : ℕ) (q : Queue) (r : Record) (n : ℕ) : Type 0 where
   refused : (m : ℕ) → (m ≡ 0 → ⊥) → refuse m q r ≡ taken ts q r n → Decided ts q r n
   accepted : Accepted ts q r n → Decided ts q r n
 
-decided-by : (ts : ℕ) (q : Queue) (r : Record) (n : ℕ) (a b : Bool) → same (unfit ts r n) 0 ≡ a → less (q .confirmed + q .unconfirmed) (q .places) ≡ b → Decided ts q r n
+decided-by : (ts : ℕ) (q : Queue) (r : Record) (n : ℕ) (a b : Bool) → same (unfit ts r n) 0 ≡ a
+    → less (q .confirmed + q .unconfirmed) (q .places) ≡ b → Decided ts q r n
 unfolding taken
 decided-by ts q r n true true e f =
     accepted record { fit = true-same _ _ e; room = true-less _ _ f; is = flag-true _ e (flag-true _ f refl) }
@@ -132,7 +137,8 @@ pub decided : (ts : ℕ) (q : Queue) (r : Record) (n : ℕ) → Decided ts q r n
 decided ts q r n = decided-by ts q r n _ _ refl refl
 
 -- not refused, it is accepted
-accepting : {ts : ℕ} {q : Queue} {r : Record} {n : ℕ} → taken ts q r n .refused ≡ 0 → Decided ts q r n → Accepted ts q r n
+accepting : {ts : ℕ} {q : Queue} {r : Record} {n : ℕ} → taken ts q r n .refused ≡ 0 → Decided ts q r n
+    → Accepted ts q r n
 unfolding refuse
 accepting h (accepted a) = a
 accepting h (refused m z e) = absurd (z (ap (λ (t : Taken). t .refused) e ∙ h))

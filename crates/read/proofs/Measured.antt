@@ -7,7 +7,8 @@ use Rattle.choice.proofs.Rules.{false-less}
 use Rattle.frame.specs.Reading.{mismeasured}
 
 -- LE of an SD2 that is not refused
-measured : (le : ℕ) (t u r : Bool) → less le 4 ≡ t → less 249 le ≡ u → pick t true (pick u true r) ≡ false → (4 ≤ le) × (le ≤ 249)
+measured : (le : ℕ) (t u r : Bool) → less le 4 ≡ t → less 249 le ≡ u → pick t true (pick u true r) ≡ false
+    → (4 ≤ le) × (le ≤ 249)
 unfolding pick
 measured le true u r p q e = absurd (true≢false e)
 measured le false true r p q e = absurd (true≢false e)

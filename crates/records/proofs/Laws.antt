@@ -1,5 +1,5 @@
--- The laws of a row of records: what submit and collect find in order where they do not refuse, and what a record put at
--- a place leaves there and elsewhere. Assumes nothing.
+-- The laws of a row of records: what submit and collect find in order where they do not refuse, and what a record put
+-- at a place leaves there and elsewhere. Assumes nothing.
 use Prim.Native.Nat.{ℕ, _<_}
 use mathlib.Core.Bool.{Bool, true, false}
 use mathlib.Core.Path.{_≡_, refl, sym}
@@ -32,7 +32,8 @@ ready-row q n e =
 abbrev Within : ℕ → Taken → Type 0
 Within n t = t .refused ≡ 0 → t .place < n
 
-within-pick : (n : ℕ) (b : Bool) (x y : Taken) → (b ≡ true → Within n x) → (b ≡ false → Within n y) → Within n (pick b x y)
+within-pick : (n : ℕ) (b : Bool) (x y : Taken) → (b ≡ true → Within n x) → (b ≡ false → Within n y)
+    → Within n (pick b x y)
 unfolding pick
 within-pick n true x y f g = f refl
 within-pick n false x y f g = g refl
@@ -48,10 +49,12 @@ within-take q r n h e = place-below q _ h (h .used)
 within-taken : (ts : ℕ) (q : Queue) (r : Record) (n : ℕ) → Ruled q → Within (q .places) (taken ts q r n)
 unfolding taken
 within-taken ts q r n h =
-    within-pick _ _ _ _ (λ _. within-pick _ _ _ _ (λ _. within-take q r n h) (λ _. within-refuse _ _ q r (λ e. omega arith)))
+    within-pick _ _ _ _
+    (λ _. within-pick _ _ _ _ (λ _. within-take q r n h) (λ _. within-refuse _ _ q r (λ e. omega arith)))
     (λ e. within-refuse _ _ q r (false-same _ _ e))
 
-pub within-decided : (ts : ℕ) (q : Queue) (r : Record) (n places : ℕ) → decided ts q r n places .refused ≡ 0 → decided ts q r n places .place < places
+pub within-decided : (ts : ℕ) (q : Queue) (r : Record) (n places : ℕ) → decided ts q r n places .refused ≡ 0
+    → decided ts q r n places .place < places
 unfolding decided
 within-decided ts q r n places =
     within-pick _ _ _ _ (λ e. within-row (true-same _ _ e)) (λ e. within-refuse _ _ q r (false-same _ _ e))

@@ -66,15 +66,18 @@ roomy out first second e =
     (false-less out 255 (a .0), (false-less UPDATE first (b .0), false-less UPDATE second (d .0)))
 
 -- ---- 29, by the state alone
-pub started-startable : (c : Core) (masters started : List ℕ) → unstarted c masters started ≡ false → unstartable (c .settings) (c .ts .0) masters ≡ false
+pub started-startable : (c : Core) (masters started : List ℕ) → unstarted c masters started ≡ false
+    → unstartable (c .settings) (c .ts .0) masters ≡ false
 unfolding unstarted
 started-startable c masters started e = is-said (unrefused _ _ e .0)
 
-started-member : (c : Core) (masters started : List ℕ) → unstarted c masters started ≡ false → member started (c .ts .0) ≡ true
+started-member : (c : Core) (masters started : List ℕ) → unstarted c masters started ≡ false
+    → member started (c .ts .0) ≡ true
 unfolding unstarted
 started-member c masters started e = is-said (not-turned _ (unrefused _ _ e .1))
 
-addressed : (ps stranger source : ℕ) → misaddressed ps stranger source ≡ false → (ps ≤ 126) × ((stranger ≤ 127) × (source ≤ 127))
+addressed : (ps stranger source : ℕ) → misaddressed ps stranger source ≡ false
+    → (ps ≤ 126) × ((stranger ≤ 127) × (source ≤ 127))
 unfolding misaddressed
 addressed ps stranger source e =
     let a = unrefused _ _ e in
@@ -82,7 +85,8 @@ addressed ps stranger source e =
     let d = unrefused _ _ (b .1) in
     (false-less 126 ps (a .0), (false-less 127 stranger (b .0), false-less 127 source (d .0)))
 
-counted : (high low : Queue) (reply : ℕ) → overcounted high low reply ≡ false → (Ruled high) × ((Ruled low) × (reply ≤ 255))
+counted : (high low : Queue) (reply : ℕ) → overcounted high low reply ≡ false
+    → (Ruled high) × ((Ruled low) × (reply ≤ 255))
 unfolding overcounted
 counted high low reply e =
     let a = unrefused _ _ e in
@@ -137,7 +141,14 @@ module _ (c : Core) (masters started : List ℕ) (k : Kept) (e : lawless c maste
   lawful =
       let s = started-startable c masters started lawful-started in
       let n = counted (c .high) (c .low) (k .length) lawful-counted in
-      record { settings = startable-settings (c .settings) (c .ts .0) masters s; retries = startable-retries (c .settings) (c .ts .0) masters s; ts = startable-ts (c .settings) (c .ts .0) masters s; high = n .0; low = n .1 .0 }
+      record {
+        settings = startable-settings (c .settings) (c .ts .0) masters s;
+        retries = startable-retries (c .settings)
+            (c .ts .0) masters s;
+        ts = startable-ts (c .settings) (c .ts .0) masters s;
+        high = n .0;
+        low = n .1 .0;
+      }
 
   -- TS is in the set in force and in the one kept for reset
   pub lawful-member : member masters (c .ts .0) ≡ true
@@ -189,7 +200,8 @@ row-low : (p : Priority) (high low : List ℕ) → p ≡ Low → rowBy p high lo
 unfolding rowBy
 row-low p high low h = rw h
 
-module _ (c : Core) (high low : List ℕ) {r : Record} {p : ℕ} {q : Queue} (a : q ≡ queueOf (c .doing .served) c) (b : p ≡ current q) where
+module _ (c : Core) (high low : List ℕ) {r : Record} {p : ℕ} {q : Queue} (a : q ≡ queueOf (c .doing .served) c)
+    (b : p ≡ current q) where
   pub flight-high : c .doing .served ≡ High → r ≡ at high p → r ≡ inFlight c high low
   unfolding inFlight
   flight-high h e = rw (e, b, a, row-high _ high low h)
@@ -224,8 +236,12 @@ module _ (c : Core) (high low : List ℕ) (e : unsound c high low ≡ false) whe
       granted _ _ (a .1) .1
 
 -- ---- no refusal
-module _ (out first second : ℕ) (c : Core) (masters started : List ℕ) (k : Kept) (high low : Rows) (e : refusalIn out first second c masters started k high low ≡ 0) where
-  tests : (unlent (c .high) high ≡ false) × ((unlent (c .low) low ≡ false) × ((cramped out first second ≡ false) × ((lawless c masters started k ≡ false) × (unsound c (high .row) (low .row) ≡ false))))
+module _ (out first second : ℕ) (c : Core) (masters started : List ℕ) (k : Kept) (high low : Rows)
+    (e : refusalIn out first second c masters started k high low ≡ 0) where
+  tests : (unlent (c .high) high ≡ false)
+      × ((unlent (c .low) low ≡ false)
+      × ((cramped out first second ≡ false)
+      × ((lawless c masters started k ≡ false) × (unsound c (high .row) (low .row) ≡ false))))
   unfolding refusalIn
   tests =
       let a = passed _ _ _ (omega arith) e in
@@ -264,7 +280,8 @@ module _ (out first second : ℕ) (c : Core) (masters started : List ℕ) (k : K
   pub reply-short : k .length ≤ 255
   reply-short = lawful-reply c masters started k not-lawless
 
-  -- a request is being sent: it is in the queue, and it is no SDN while its reply is awaited, and one while that goes out
+  -- a request is being sent: it is in the queue, and it is no SDN while its reply is awaited, and one while that goes
+  -- out
   pub awaited-queued : c .doing .phase ≡ Awaited → 0 < queueOf (c .doing .served) c .unconfirmed
   awaited-queued h = lawful-awaited c masters started k not-lawless h
 
@@ -291,6 +308,7 @@ either-way true true e = sym e
 either-way true false e = refl
 either-way false b e = refl
 
-pub unlike-unsound : (c : Core) (high low : List ℕ) → unlikeIn (c .doing .phase) (inFlight c high low .service) ≡ true → true ≡ unsound c high low
+pub unlike-unsound : (c : Core) (high low : List ℕ) → unlikeIn (c .doing .phase) (inFlight c high low .service) ≡ true
+    → true ≡ unsound c high low
 unfolding unsound
 unlike-unsound c high low e = either-way (soundIn (c .ts .0) (c .high) high) (soundIn (c .ts .0) (c .low) low) e

@@ -1,5 +1,5 @@
--- What is known of a request that submit does not refuse for itself, and of a record laid in a row: it is read back, and
--- the records at other places are untouched. Assumes nothing.
+-- What is known of a request that submit does not refuse for itself, and of a record laid in a row: it is read back,
+-- and the records at other places are untouched. Assumes nothing.
 use Prim.Native.Nat.{ℕ, _+_, _<_, _≤_}
 use mathlib.Core.Bool.{false}
 use mathlib.Core.Path.{_≡_, sym, _∙_}
@@ -31,7 +31,8 @@ fit ts r n e =
     record { addressed = is-said (a .0); pointed = is-said (b .0); served = is-said (c .0); short = is-said (d .0) }
 
 -- its data and access points are at most 246 octets
-pub fit-short : (ts : ℕ) (r : Record) (n : ℕ) → unfit ts r n ≡ 0 → extensions (r .to .0) + (extensions (r .from .0) + n) ≤ UNIT
+pub fit-short : (ts : ℕ) (r : Record) (n : ℕ) → unfit ts r n ≡ 0
+    → extensions (r .to .0) + (extensions (r .from .0) + n) ≤ UNIT
 unfolding overlong
 fit-short ts r n e = false-less _ _ (sym (pick-itself _) ∙ fit ts r n e .short)
 
@@ -39,18 +40,38 @@ fit-short ts r n e = false-less _ _ (sym (pick-itself _) ∙ fit ts r n e .short
 pub read-back : (l : List ℕ) (i : ℕ) (r : Record) → i + SIZE ≤ length l → recordAt (laid l i (octets r)) i ≡ r
 unfolding recordAt octets
 read-back l i r h =
-    let o : (k : ℕ) → k < SIZE → octet (laid l i (octets r)) (i + k) ≡ octet (octets r) k = λ k n. laid-octet l i (octets r) k (omega arith) n in
-    rw (o 0 (omega arith), o 1 (omega arith), o 2 (omega arith), o 3 (omega arith), o 4 (omega arith), o 5 (omega arith), o 6 (omega arith))
+    let o : (k : ℕ) → k < SIZE → octet (laid l i (octets r)) (i + k) ≡ octet (octets r) k = λ k n. laid-octet l i
+    (octets r) k (omega arith) n in
+    rw (
+      o 0 (omega arith),
+      o 1 (omega arith),
+      o 2 (omega arith),
+      o 3 (omega arith),
+      o 4 (omega arith),
+      o 5 (omega arith),
+      o 6 (omega arith),
+    )
 
 -- records whose octets are the same
-same-octets : (l m : List ℕ) (j : ℕ) → ((k : ℕ) → k < SIZE → octet l (j + k) ≡ octet m (j + k)) → recordAt l j ≡ recordAt m j
+same-octets : (l m : List ℕ) (j : ℕ) → ((k : ℕ) → k < SIZE → octet l (j + k) ≡ octet m (j + k))
+    → recordAt l j ≡ recordAt m j
 unfolding recordAt
 same-octets l m j h =
-    cc (h 0 (omega arith), h 1 (omega arith), h 2 (omega arith), h 3 (omega arith), h 4 (omega arith), h 5 (omega arith), h 6 (omega arith))
+    cc (
+      h 0 (omega arith),
+      h 1 (omega arith),
+      h 2 (omega arith),
+      h 3 (omega arith),
+      h 4 (omega arith),
+      h 5 (omega arith),
+      h 6 (omega arith),
+    )
 
-pub read-before : (l : List ℕ) (i j : ℕ) (r : Record) → i + SIZE ≤ length l → j + SIZE ≤ i → recordAt (laid l i (octets r)) j ≡ recordAt l j
+pub read-before : (l : List ℕ) (i j : ℕ) (r : Record) → i + SIZE ≤ length l → j + SIZE ≤ i
+    → recordAt (laid l i (octets r)) j ≡ recordAt l j
 read-before l i j r h n = same-octets _ l j (λ k m. before-octet l i (octets r) (j + k) (omega arith) (omega arith))
 
-pub read-behind : (l : List ℕ) (i j : ℕ) (r : Record) → i + SIZE ≤ length l → i + SIZE ≤ j → recordAt (laid l i (octets r)) j ≡ recordAt l j
+pub read-behind : (l : List ℕ) (i j : ℕ) (r : Record) → i + SIZE ≤ length l → i + SIZE ≤ j
+    → recordAt (laid l i (octets r)) j ≡ recordAt l j
 unfolding octets
 read-behind l i j r h n = same-octets _ l j (λ k m. behind-octet l i (octets r) (j + k) (omega arith) (omega arith))

@@ -57,7 +57,8 @@ short : (to from n : ℕ) → n < 245 → overlong to from n ≡ false
 unfolding overlong
 short to from n l = pick-false _ _ (less-false (omega (arith, extensions-most to, extensions-most from)))
 
-pub fit : (ts : ℕ) (r : Record) (n : ℕ) → r .destination .0 < 127 → (r .destination .0 ≡ ts → ⊥) → Usual (r .to .0) → Usual (r .from .0)
+pub fit : (ts : ℕ) (r : Record) (n : ℕ) → r .destination .0 < 127 → (r .destination .0 ≡ ts → ⊥) → Usual (r .to .0)
+    → Usual (r .from .0)
     → n < 245 → unserved (r .service) ≡ false → unfit ts r n ≡ 0
 unfolding unfit
 fit ts r n l d u v h s =

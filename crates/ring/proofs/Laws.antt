@@ -47,7 +47,8 @@ pub record Found (l : List ℕ) (step n a : ℕ) : Type 0 where
   pub between : (j : ℕ) → 0 < j → j < turn → member l (steps step j a) ≡ false
   pub there : (member l (steps step turn a) ≡ true) ⊎ (turn ≡ n)
 
-found-next : (l : List ℕ) (step n a : ℕ) → member l (on step a) ≡ false → Found l step n (on step a) → Found l step (suc n) a
+found-next : (l : List ℕ) (step n a : ℕ) → member l (on step a) ≡ false → Found l step n (on step a)
+    → Found l step (suc n) a
 unfolding seek steps
 found-next l step n a e f =
     record {
@@ -64,19 +65,36 @@ found-next l step n a e f =
     behind (suc zero) p h = e
     behind (suc (suc j)) p h = f .between (suc j) (omega arith) (omega arith)
 
-    last : (member l (steps step (f .turn) (on step a)) ≡ true) ⊎ (f .turn ≡ n) → (member l (steps step (f .turn) (on step a)) ≡ true) ⊎ (suc (f .turn) ≡ suc n)
+    last : (member l (steps step (f .turn) (on step a)) ≡ true) ⊎ (f .turn ≡ n)
+        → (member l (steps step (f .turn) (on step a)) ≡ true) ⊎ (suc (f .turn) ≡ suc n)
     last (inl m) = inl m
     last (inr q) = inr (ap suc q)
 
 pub seek-found : (l : List ℕ) (step n a : ℕ) → Found l step n a
 unfolding seek steps
 seek-found l step zero a =
-    record { turn = zero; moved = λ p. p; within = omega arith; is = refl; between = λ j p h. absurd (omega arith); there = inr refl }
+    record {
+      turn = zero;
+      moved = λ p. p;
+      within = omega arith;
+      is = refl;
+      between = λ j p h. absurd (omega arith);
+      there =
+          inr refl;
+    }
 seek-found l step (suc n) a = by (member l (on step a)) refl (seek-found l step n (on step a))
   where
     by : (b : Bool) → member l (on step a) ≡ b → Found l step n (on step a) → Found l step (suc n) a
     by true e f =
-        record { turn = 1; moved = λ p. omega arith; within = omega arith; is = pick-true _ _ e; between = λ j p h. absurd (omega arith); there = inl e }
+        record {
+          turn = 1;
+          moved = λ p. omega arith;
+          within = omega arith;
+          is = pick-true _ _ e;
+          between = λ j p h. absurd
+              (omega arith);
+          there = inl e;
+        }
     by false e f = found-next l step n a e f
 
 -- ---- NS

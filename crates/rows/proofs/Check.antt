@@ -17,17 +17,20 @@ abbrev pub fault : ℕ → Queue → List ℕ → ℕ → ℕ
 fault ts q row k = unfit ts (pending row q k) (pending row q k .length)
 
 -- the refusal as the code comes by it
-pub faulted : (ts : ℕ) (q : Queue) (row : List ℕ) (k : ℕ) {p w u : ℕ} {r : Record} → p ≡ place q (q .confirmed + k) → r ≡ at row p → w ≡ r .length → u ≡ unfit ts r w → u ≡ fault ts q row k
+pub faulted : (ts : ℕ) (q : Queue) (row : List ℕ) (k : ℕ) {p w u : ℕ} {r : Record} → p ≡ place q (q .confirmed + k)
+    → r ≡ at row p → w ≡ r .length → u ≡ unfit ts r w → u ≡ fault ts q row k
 faulted ts q row k e f g h = rw (h, g, f, e)
 
 -- ---- one record looked at
-pub sound-one : (ts : ℕ) (q : Queue) (row : List ℕ) (n : ℕ) → 0 < n → fault ts q row (n - 1) ≡ 0 → sound ts q row n ≡ sound ts q row (n - 1)
+pub sound-one : (ts : ℕ) (q : Queue) (row : List ℕ) (n : ℕ) → 0 < n → fault ts q row (n - 1) ≡ 0
+    → sound ts q row n ≡ sound ts q row (n - 1)
 unfolding sound
 sound-one ts q row (suc n) h e =
     let m : suc n - 1 ≡ n = omega arith in
     rw m (pick-true _ _ (same-true (rw m at e)))
 
-pub sound-stops : (ts : ℕ) (q : Queue) (row : List ℕ) (n : ℕ) → 0 < n → (fault ts q row (n - 1) ≡ 0 → ⊥) → sound ts q row n ≡ false
+pub sound-stops : (ts : ℕ) (q : Queue) (row : List ℕ) (n : ℕ) → 0 < n → (fault ts q row (n - 1) ≡ 0 → ⊥)
+    → sound ts q row n ≡ false
 unfolding sound
 sound-stops ts q row (suc n) h e =
     let m : suc n - 1 ≡ n = omega arith in

@@ -20,13 +20,17 @@ use Rattle.rows.proofs.Check.{fault, Sound, is-sound, sound-is, sound-e
 use Rattle.rows.proofs.Draining.{drained}
 
 -- the refusal of a record that is known
-known : (ts : ℕ) (q : Queue) (row : List ℕ) (k : ℕ) {r : Record} → pending row q k ≡ r → fault ts q row k ≡ unfit ts r (r .length)
+known : (ts : ℕ) (q : Queue) (row : List ℕ) (k : ℕ) {r : Record} → pending row q k ≡ r
+    → fault ts q row k ≡ unfit ts r (r .length)
 known ts q row k e = rw e
 
 -- a record put at another place in use leaves the k-th unconfirmed one
-untouched : (q : Queue) (row : List ℕ) (i k : ℕ) (r : Record) → Ruled q → length row ≡ SIZE * q .places → i < q .places → k < q .unconfirmed → (i ≡ q .confirmed + k → ⊥) → pending (put row (place q i) r) q k ≡ pending row q k
+untouched : (q : Queue) (row : List ℕ) (i k : ℕ) (r : Record) → Ruled q → length row ≡ SIZE * q .places
+    → i < q .places → k < q .unconfirmed → (i ≡ q .confirmed + k → ⊥)
+    → pending (put row (place q i) r) q k ≡ pending row q k
 untouched q row i k r u l h n d =
-    at-other row (place q i) (place q (q .confirmed + k)) r (omega (arith, place-below q i u (omega arith))) (λ e. d (place-apart q i (q .confirmed + k) h (omega (arith, u .used)) e))
+    at-other row (place q i) (place q (q .confirmed + k)) r (omega (arith, place-below q i u (omega arith)))
+    (λ e. d (place-apart q i (q .confirmed + k) h (omega (arith, u .used)) e))
 
 -- ---- submit
 fit-waiting : (ts : ℕ) (r : Record) (n : ℕ) → unfit ts (waiting r n) (waiting r n .length) ≡ unfit ts r n
@@ -42,17 +46,20 @@ pending-grown q row k = ap (at row) (place-grown q (q .confirmed + k))
 abbrev filled : Queue → Record → ℕ → List ℕ → List ℕ
 filled q r n row = put row (place q (q .confirmed + q .unconfirmed)) (waiting r n)
 
-module _ (ts : ℕ) (q : Queue) (r : Record) (n : ℕ) (row : List ℕ) (u : Ruled q) (l : length row ≡ SIZE * q .places) (a : Accepted ts q r n) where
+module _ (ts : ℕ) (q : Queue) (r : Record) (n : ℕ) (row : List ℕ) (u : Ruled q) (l : length row ≡ SIZE * q .places)
+    (a : Accepted ts q r n) where
   earlier : (k : ℕ) → k < q .unconfirmed → fault ts (grown q) (filled q r n row) k ≡ fault ts q row k
   earlier k h =
       known ts (grown q) (filled q r n row) k
-      (pending-grown q (filled q r n row) k ∙ untouched q row (q .confirmed + q .unconfirmed) k (waiting r n) u l (a .room) h (λ e. omega arith))
+      (pending-grown q (filled q r n row) k ∙ untouched q row (q .confirmed + q .unconfirmed) k (waiting r n) u l
+      (a .room) h (λ e. omega arith))
 
   last : fault ts (grown q) (filled q r n row) (q .unconfirmed) ≡ 0
   last =
       let p = place-below q (q .confirmed + q .unconfirmed) u (u .used) in
       known ts (grown q) (filled q r n row) (q .unconfirmed)
-      (pending-grown q (filled q r n row) (q .unconfirmed) ∙ at-put row (place q (q .confirmed + q .unconfirmed)) (waiting r n) (omega arith))
+      (pending-grown q (filled q r n row) (q .unconfirmed) ∙ at-put row (place q (q .confirmed + q .unconfirmed))
+      (waiting r n) (omega arith))
       ∙ fit-waiting ts r n
       ∙ a .fit
 
@@ -60,7 +67,9 @@ module _ (ts : ℕ) (q : Queue) (r : Record) (n : ℕ) (row : List ℕ) (u : Rul
   unfolding grown
   sound-filled s =
       record {
-        fit = λ k h. by-order k (q .unconfirmed) (λ m. earlier k m ∙ s .fit k m) (λ m. let i : k ≡ q .unconfirmed = omega arith in rw i last);
+        fit =
+            λ k h. by-order k (q .unconfirmed) (λ m. earlier k m ∙ s .fit k m)
+            (λ m. let i : k ≡ q .unconfirmed = omega arith in rw i last);
       }
 
 module _ (ts : ℕ) (q : Queue) (r : Record) (x row area : List ℕ) where
@@ -87,23 +96,33 @@ pending-confirmed q row k =
     let e : q .confirmed + 1 + k ≡ q .confirmed + (k + 1) = omega arith in
     rw e (ap (at row) (place-confirmed q (q .confirmed + (k + 1))))
 
-pub sound-confirmed : (ts : ℕ) (q : Queue) (status count : ℕ) (x row area : List ℕ) → Ruled q → 0 < q .unconfirmed → length row ≡ SIZE * q .places → Sound ts q row → Sound ts (confirmed q) (confirm q status count x row area .row)
+pub sound-confirmed : (ts : ℕ) (q : Queue) (status count : ℕ) (x row area : List ℕ) → Ruled q → 0 < q .unconfirmed
+    → length row ≡ SIZE * q .places → Sound ts q row
+    → Sound ts (confirmed q) (confirm q status count x row area .row)
 unfolding confirm confirmed current
 sound-confirmed ts q status count x row area u h l s =
     record {
-      fit = λ k m. known ts (confirmed q) _ k (pending-confirmed q _ k ∙ untouched q row (q .confirmed) (k + 1) _ u l (omega (arith, u .used)) (omega arith) (λ e. omega arith)) ∙ s .fit (k + 1) (omega arith);
+      fit =
+          λ k m. known ts (confirmed q) _ k
+          (pending-confirmed q _ k ∙ untouched q row (q .confirmed) (k + 1) _ u l (omega (arith, u .used))
+          (omega arith) (λ e. omega arith)) ∙ s .fit (k + 1) (omega arith);
     }
 
-pub sound-drained : (ts : ℕ) (q : Queue) (count : ℕ) (row area : List ℕ) → Ruled q → Lent q row area → Sound ts (drain (q .unconfirmed) count (left q row area) .answer) (drain (q .unconfirmed) count (left q row area) .row)
-sound-drained ts q count row area u l = sound-empty ts _ _ (drained (q .unconfirmed) count (left q row area) refl u l .none)
+pub sound-drained : (ts : ℕ) (q : Queue) (count : ℕ) (row area : List ℕ) → Ruled q → Lent q row area
+    → Sound ts (drain (q .unconfirmed) count (left q row area) .answer)
+    (drain (q .unconfirmed) count (left q row area) .row)
+sound-drained ts q count row area u l =
+    sound-empty ts _ _ (drained (q .unconfirmed) count (left q row area) refl u l .none)
 
 -- ---- collect
-pending-freed : (q : Queue) (row : List ℕ) (k : ℕ) → Ruled q → 0 < q .confirmed → k < q .unconfirmed → pending row (freed q) k ≡ pending row q k
+pending-freed : (q : Queue) (row : List ℕ) (k : ℕ) → Ruled q → 0 < q .confirmed → k < q .unconfirmed
+    → pending row (freed q) k ≡ pending row q k
 unfolding freed
 pending-freed q row k u h m =
     let e : q .confirmed - 1 + k + 1 ≡ q .confirmed + k = omega arith in
     ap (at row) (rw e at (place-freed q (q .confirmed - 1 + k) u (omega (arith, u .used))))
 
-pub sound-freed : (ts : ℕ) (q : Queue) (row : List ℕ) → Ruled q → 0 < q .confirmed → Sound ts q row → Sound ts (freed q) row
+pub sound-freed : (ts : ℕ) (q : Queue) (row : List ℕ) → Ruled q → 0 < q .confirmed → Sound ts q row
+    → Sound ts (freed q) row
 unfolding freed
 sound-freed ts q row u h s = record { fit = λ k m. known ts (freed q) row k (pending-freed q row k u h m) ∙ s .fit k m }

@@ -27,7 +27,8 @@ lent q row area e =
     let d = granted _ _ (c .1) in
     record { places = true-same _ _ (c .0); areas = true-same _ _ (d .0) }
 
-pub not-misfit : (q : Queue) (row area : List ℕ) → 0 < q .places → q .places ≤ 64 → Lent q row area → misfit q SIZE (length row) (length area) ≡ false
+pub not-misfit : (q : Queue) (row area : List ℕ) → 0 < q .places → q .places ≤ 64 → Lent q row area
+    → misfit q SIZE (length row) (length area) ≡ false
 unfolding misfit unlike
 not-misfit q row area z h l =
     sym (unless-same _ (λ e. omega arith) (unless-less _ h (if-same _ (l .places) (if-same _ (l .areas) refl))))
@@ -45,7 +46,8 @@ pub length-put : (row : List ℕ) (p : ℕ) (r : Record) → SIZE * p + SIZE ≤
 unfolding put octets
 length-put row p r h = length-laid row (SIZE * p) (octets r) h
 
-pub length-fill : (area : List ℕ) (p : ℕ) (x : List ℕ) → AREA * p + length x ≤ length area → length (fill area p x) ≡ length area
+pub length-fill : (area : List ℕ) (p : ℕ) (x : List ℕ) → AREA * p + length x ≤ length area
+    → length (fill area p x) ≡ length area
 unfolding fill
 length-fill area p x h = length-laid area (AREA * p) x h
 
@@ -54,7 +56,8 @@ pub at-put : (row : List ℕ) (p : ℕ) (r : Record) → SIZE * p + SIZE ≤ len
 unfolding at put
 at-put row p r h = read-back row (SIZE * p) r h
 
-pub at-other : (row : List ℕ) (p j : ℕ) (r : Record) → SIZE * p + SIZE ≤ length row → (p ≡ j → ⊥) → at (put row p r) j ≡ at row j
+pub at-other : (row : List ℕ) (p j : ℕ) (r : Record) → SIZE * p + SIZE ≤ length row → (p ≡ j → ⊥)
+    → at (put row p r) j ≡ at row j
 unfolding at put
 at-other row p j r h n =
     by-order p j
@@ -62,11 +65,13 @@ at-other row p j r h n =
     (λ m. read-before row (SIZE * p) (SIZE * j) r h (omega (arith, n)))
 
 -- ---- data filled in are the ones there, and the others are as they were
-pub content-fill : (area : List ℕ) (p : ℕ) (x : List ℕ) → AREA * p ≤ length area → content (fill area p x) p (length x) ≡ x
+pub content-fill : (area : List ℕ) (p : ℕ) (x : List ℕ) → AREA * p ≤ length area
+    → content (fill area p x) p (length x) ≡ x
 unfolding content fill
 content-fill area p x h = laid-part area (AREA * p) x h
 
-pub content-other : (area : List ℕ) (p j : ℕ) (x : List ℕ) (n : ℕ) → AREA * p + AREA ≤ length area → length x ≤ AREA → n ≤ AREA → (p ≡ j → ⊥) → content (fill area p x) j n ≡ content area j n
+pub content-other : (area : List ℕ) (p j : ℕ) (x : List ℕ) (n : ℕ) → AREA * p + AREA ≤ length area → length x ≤ AREA
+    → n ≤ AREA → (p ≡ j → ⊥) → content (fill area p x) j n ≡ content area j n
 unfolding content fill
 content-other area p j x n h l m d =
     by-order p j

@@ -1,5 +1,5 @@
--- The first request of a queue: its record is in the row, its data are in the area, and they are fit to be laid. Assumes
--- nothing.
+-- The first request of a queue: its record is in the row, its data are in the area, and they are fit to be laid.
+-- Assumes nothing.
 use Prim.Native.Nat.{ℕ, _+_, _*_, _<_, _≤_}
 use mathlib.Core.Path.{_≡_}
 use mathlib.Core.List.{List}
@@ -44,7 +44,8 @@ module _ (p : Priority) (c : Core) (r : Rows) (y : Ready p c r) where
       length-take-le _ _ (simp length-drop (omega (arith, k, n, y .lent .areas)))
 
 -- ---- it and its data, by the values that the code comes by
-module _ (p : Priority) (c : Core) (r : Rows) {q : Queue} {k : ℕ} {e : Record} (a : q ≡ queueOf p c) (b : k ≡ current q) (d : e ≡ at (r .row) k) where
+module _ (p : Priority) (c : Core) (r : Rows) {q : Queue} {k : ℕ} {e : Record} (a : q ≡ queueOf p c)
+    (b : k ≡ current q) (d : e ≡ at (r .row) k) where
   pub is-record : e ≡ recordIn (queueOf p c) r
   unfolding recordIn
   is-record = rw (d, b, a)
@@ -57,9 +58,12 @@ module _ (p : Priority) (c : Core) (r : Rows) {q : Queue} {k : ℕ} {e : Record}
     pub fit-laid : Ready p c r → unfit (c .ts .0) e (length x) ≡ 0
     fit-laid y = rw (is-data, is-record, length-data p c r y) (y .fit)
 
-    octets-laid : (marks : List ℕ) {m : ℕ} → m ≡ markOf marks (e .destination .0) → octets (Frame (headFor (c .ts) p e m)) x ≡ octetsIn (c .ts) p (queueOf p c) marks r
+    octets-laid : (marks : List ℕ) {m : ℕ} → m ≡ markOf marks (e .destination .0)
+        → octets (Frame (headFor (c .ts) p e m)) x ≡ octetsIn (c .ts) p (queueOf p c) marks r
     unfolding octetsIn
     octets-laid marks o = rw (o, is-data, is-record)
 
-    pub lays-first : (marks : List ℕ) {m n : ℕ} {l o : List ℕ} → m ≡ markOf marks (e .destination .0) → Lays l 0 (octets (Frame (headFor (c .ts) p e m)) x) 255 n o → Lays l 0 (octetsIn (c .ts) p (queueOf p c) marks r) 255 n o
+    pub lays-first : (marks : List ℕ) {m n : ℕ} {l o : List ℕ} → m ≡ markOf marks (e .destination .0)
+        → Lays l 0 (octets (Frame (headFor (c .ts) p e m)) x) 255 n o
+        → Lays l 0 (octetsIn (c .ts) p (queueOf p c) marks r) 255 n o
     lays-first marks i z = rw (octets-laid marks i) at z

@@ -24,7 +24,8 @@ use Rattle.state.specs.Hold.{choice, left, beginning}
 use Rattle.state.specs.Refusals.{Lawful, Sited, Ready, soundIn}
 
 -- ---- the first request of a queue is fit
-first : (ts : ℕ) (q : Queue) (row : List ℕ) → soundIn ts q row ≡ true → 0 < q .unconfirmed → unfit ts (at row (current q)) (at row (current q) .length) ≡ 0
+first : (ts : ℕ) (q : Queue) (row : List ℕ) → soundIn ts q row ≡ true → 0 < q .unconfirmed
+    → unfit ts (at row (current q)) (at row (current q) .length) ≡ 0
 unfolding soundIn current
 first ts q row e h =
     let z : q .confirmed + 0 ≡ q .confirmed = omega arith in
@@ -39,7 +40,8 @@ unfolding queueOf recordIn
 ready-low s h = record { core = s .core; lent = s .lentLow; some = h; fit = first _ _ _ (s .soundLow) h }
 
 -- the queue being served has one
-pub served-waits : (c : Core) (p : Priority) → c .doing .served ≡ p → 0 < queueOf (c .doing .served) c .unconfirmed → 0 < queueOf p c .unconfirmed
+pub served-waits : (c : Core) (p : Priority) → c .doing .served ≡ p → 0 < queueOf (c .doing .served) c .unconfirmed
+    → 0 < queueOf p c .unconfirmed
 served-waits c p e h = omega (arith, ap (λ (x : Priority). queueOf x c .unconfirmed) e, h)
 
 -- ---- a core that differs in none of what is known of it
@@ -80,7 +82,10 @@ abbrev waiting : Core → Choice → ℕ
 waiting c (Serve p) = queueOf p c .unconfirmed
 waiting c PassOn = 1
 
-waits : (c : Core) (b starts t m : Bool) → less 0 (c .high .unconfirmed) ≡ b → less 0 (c .low .unconfirmed) ≡ m → 0 < waiting c (pick b (pick starts (Serve High) (pick (said t) (Serve High) PassOn)) (pick (said t) (pick m (Serve Low) PassOn) PassOn))
+waits : (c : Core) (b starts t m : Bool) → less 0 (c .high .unconfirmed) ≡ b → less 0 (c .low .unconfirmed) ≡ m
+    → 0 < waiting c
+    (pick b (pick starts (Serve High) (pick (said t) (Serve High) PassOn))
+    (pick (said t) (pick m (Serve Low) PassOn) PassOn))
 unfolding pick said queueOf
 waits c true true t m e f = true-less _ _ e
 waits c true false true m e f = true-less _ _ e
@@ -93,7 +98,8 @@ some : (starts : Bool) (c : Core) (clock : ℕ) → 0 < waiting c (choice starts
 unfolding choice
 some starts c clock = waits c _ starts (left c clock) _ refl refl
 
-pub chosen-waits : (starts : Bool) (c : Core) (clock : ℕ) (p : Priority) → Serve p ≡ choice starts c clock → 0 < queueOf p c .unconfirmed
+pub chosen-waits : (starts : Bool) (c : Core) (clock : ℕ) (p : Priority) → Serve p ≡ choice starts c clock
+    → 0 < queueOf p c .unconfirmed
 chosen-waits starts c clock p e =
     let h : 0 < waiting c (Serve p) = rw e (some starts c clock) in
     h

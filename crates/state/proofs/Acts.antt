@@ -1,5 +1,5 @@
--- What can happen in a call, a thing at a time: moves, which tell nothing, acts, which tell one event, and trails of both.
--- Each carries what the rules saw. Every theorem about runs is shown of these. Assumes nothing.
+-- What can happen in a call, a thing at a time: moves, which tell nothing, acts, which tell one event, and trails of
+-- both. Each carries what the rules saw. Every theorem about runs is shown of these. Assumes nothing.
 use Prim.Native.Nat.{ℕ, _≤_, _<_}
 use mathlib.Core.Bool.{Bool, true, false}
 use mathlib.Core.Path.{_≡_}

@@ -1,5 +1,5 @@
--- The station's marks as the history's, and what stands in the octets of a request: its destination, and the control that
--- its record and its mark make. Assumes nothing.
+-- The station's marks as the history's, and what stands in the octets of a request: its destination, and the control
+-- that its record and its mark make. Assumes nothing.
 use Prim.Native.Nat.{ℕ, _%_, _≤_, _<_}
 use mathlib.Core.Bool.{Bool, true, false, true≢false}
 use mathlib.Core.Path.{_≡_, refl, sym, ap, _∙_}

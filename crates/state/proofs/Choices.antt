@@ -1,5 +1,5 @@
--- Two rules in any state, of a run or not: a low request is chosen only while no high one waits; and a token from a stranger
--- begins no hold the first time. Assumes nothing.
+-- Two rules in any state, of a run or not: a low request is chosen only while no high one waits; and a token from a
+-- stranger begins no hold the first time. Assumes nothing.
 use Prim.Native.Nat.{ℕ, _<_}
 use mathlib.Core.Bool.{Bool, true, false, true≢false}
 use mathlib.Core.Path.{_≡_, refl, sym, _∙_}

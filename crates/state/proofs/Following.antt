@@ -1,6 +1,6 @@
--- What follows from the frame counts of a run, with no word of marks: the bits of the next SDA or SRD to an address after a
--- plausible reply, after NA, after a reset and after the start; and that a request is sent again with the same octets.
--- Assumes nothing.
+-- What follows from the frame counts of a run, with no word of marks: the bits of the next SDA or SRD to an address
+-- after a plausible reply, after NA, after a reset and after the start; and that a request is sent again with the
+-- same octets. Assumes nothing.
 use Prim.Native.Nat.{ℕ}
 use mathlib.Core.Bool.{Bool, true, false, true≢false}
 use mathlib.Core.Path.{_≡_, refl, sym, ap, _∙_}
@@ -244,7 +244,8 @@ module _ {e : List Event} (x : Succession e) where
       (suffix (x .before) _ unheard (rw (x .told) at c)) in
       let j = stands (x .queue) (x .place) (x .earlier) (x .until) going refl (x .unanswered)
       (prefix (x .until) _ going (i .1)) in
-      let k = closed-then going (x .queue) (x .place) (x .status) (x .count) (x .earlier) _ refl (rw j at (suffix (x .until) _ going (i .1))) in (
+      let k = closed-then going (x .queue) (x .place) (x .status) (x .count) (x .earlier) _ refl
+      (rw j at (suffix (x .until) _ going (i .1))) in (
         bits-right _ _ _ (x .later)
             (sends-rightly (x .nextQueue) (x .nextPlace) (x .later) (x .laterWait) _
             (counts-split (x .since) (x .after) _ ended k)) (x .laterCounts)

@@ -295,8 +295,8 @@ counts-begun w b l =
     (kept-run (tally (b .settings) (b .ts) (o .small)) l w unheard (poised (b .settings) (b .ts) w o)
     (fits-begun w b) .right)
 
--- the theorem: after a start and any calls, each sending of a request among the events has the control that the history of
--- the events before it gives, and is either the first or "the same octets again"
+-- the theorem: after a start and any calls, each sending of a request among the events has the control that the
+-- history of the events before it gives, and is either the first or "the same octets again"
 pub frame-counts : (w : World) → Begun w
     → (l : List Call) (before after : List Event) (p : Priority) (n : ℕ) (o : List ℕ) (wait : ℕ)
     → run l w .events ≡ before ++ (sends (aRequest p n) o wait ∷ after) → Rightly (history before unheard) p n o

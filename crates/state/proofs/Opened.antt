@@ -76,7 +76,8 @@ unfolding acts Refusals.unstartable Refusals.unlent Refusals.cramped Refusals.un
     Refusals.overcounted Refusals.oddIn Refusals.lawless Refusals.soundIn Refusals.unlikeIn Refusals.rowBy
     Refusals.inFlight Refusals.unsound Refusals.refusalIn Refusals.refusal Calls.called Calls.replying Calls.emptyQueue
     Calls.firstHold Calls.forgotten Calls.freshCore Calls.freshWorld Calls.start Calls.submitting Calls.submit
-    Calls.collecting Calls.collect Calls.responder Calls.idle Calls.idleRead Calls.awaitedRead Calls.heard Calls.frame Calls.slotIn
+    Calls.collecting Calls.collect Calls.responder Calls.idle Calls.idleRead Calls.awaitedRead Calls.heard Calls.frame
+    Calls.slotIn
     Calls.slot Runs.call Runs.run
 calls = true
 

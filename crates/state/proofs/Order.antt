@@ -1,4 +1,5 @@
--- A station in order: what start leaves and every call keeps, so that none of its states is refused 29. Assumes nothing.
+-- A station in order: what start leaves and every call keeps, so that none of its states is refused 29. Assumes
+-- nothing.
 use Prim.Native.Nat.{ℕ, _≤_, _<_}
 use mathlib.Core.Bool.{Bool, true, false, true≢false}
 use mathlib.Core.Path.{_≡_, refl, sym, ap, _∙_}
@@ -120,4 +121,5 @@ module _ (t : Settings) (ts : ℕ) (w : World) (o : Orderly t ts w) where
       (λ e. by (λ (n : ℕ). n ≡ 29 → ⊥) _ _ _ (λ e z. omega arith)
       (λ e. by (λ (n : ℕ). n ≡ 29 → ⊥) _ _ _ (λ e z. omega arith)
       (λ e. by (λ (n : ℕ). n ≡ 29 → ⊥) _ _ _ (λ e. absurd (true≢false (sym (is-said e) ∙ not-lawless)))
-      (λ e. by (λ (n : ℕ). n ≡ 29 → ⊥) _ _ _ (λ e. absurd (true≢false (sym (is-said e) ∙ not-unsound))) (λ e z. omega arith)))))
+      (λ e. by (λ (n : ℕ). n ≡ 29 → ⊥) _ _ _ (λ e. absurd (true≢false (sym (is-said e) ∙ not-unsound)))
+      (λ e z. omega arith)))))

@@ -1,5 +1,5 @@
--- The phases by what they say of the station: a request is being sent, a pass is checked, the token goes to itself. Every
--- other file asks these, so that a new phase is told here. Assumes nothing.
+-- The phases by what they say of the station: a request is being sent, a pass is checked, the token goes to itself.
+-- Every other file asks these, so that a new phase is told here. Assumes nothing.
 use mathlib.Core.Bool.{Bool, true, false, true≢false}
 use mathlib.Core.Path.{_≡_, refl}
 use mathlib.Core.List.{List, [], _∷_}

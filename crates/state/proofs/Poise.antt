@@ -224,7 +224,8 @@ module _ (t : Settings) (ts : ℕ) (small : ts ≤ 126) where
         low = b;
       }
 
-  readdress : {set : Settings} {own ps stranger ps′ stranger′ : ℕ} {masters masters′ : List ℕ} {h l : Queue} {u v : Rows}
+  readdress : {set : Settings} {own ps stranger ps′ stranger′ : ℕ} {masters masters′ : List ℕ} {h l : Queue}
+      {u v : Rows}
       → Firm t ts set own ps stranger masters h l u v → ps′ ≤ 126 → stranger′ ≤ 127 → member masters′ own ≡ true
       → Firm t ts set own ps′ stranger′ masters′ h l u v
   readdress f a b c =

@@ -160,8 +160,8 @@ low-goes : (n : ℕ) (o : List ℕ) (k : ℕ) (h : Line) → Meets (sends (aRequ
 unfolding ofSendings Goes
 low-goes n o k h i = i
 
--- the theorem: after a start and any calls, where a low request is sent and none was sent before it that is not confirmed,
--- every high request that was accepted is confirmed
+-- the theorem: after a start and any calls, where a low request is sent and none was sent before it that is not
+-- confirmed, every high request that was accepted is confirmed
 pub high-before-low : (w : World) → Begun w
     → (l : List Call) (before after : List Event) (n : ℕ) (o : List ℕ) (wait : ℕ)
     → run l w .events ≡ before ++ (sends (aRequest Low n) o wait ∷ after) → lineLast before nobody .low ≡ false

@@ -256,7 +256,8 @@ module _ (p k limit : ℕ) where
   close-high o x s f h e (waits d g w (ours a b c z i j)) =
       let w0 : Waiting p 0 (s .core .high) = rw c at w in
       closes-ours _ _ _ f (current-ours p _ w0) (z .collected)
-      (shut (ground-closed (s .core .high) (statusOf o) (s .core .doing .sendings) x (s .high .row) (s .high .area) g (w .within))
+      (shut (ground-closed (s .core .high) (statusOf o) (s .core .doing .sendings) x (s .high .row) (s .high .area) g
+      (w .within))
       (rw (sent-count f (s .core .doing .sendings) (z .sendings))
       (shut-now p (s .core .doing .sendings) (s .core .high) (s .high .row) (g .rowed) (statusOf o) x
       (s .high .area) w0))

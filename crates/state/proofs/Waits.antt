@@ -1,5 +1,5 @@
--- Every request and every token of a run goes after Tid2 if this station's last sending in the hold was an SDN, and after
--- Tid1 otherwise; every reply after min TSDR. Assumes nothing.
+-- Every request and every token of a run goes after Tid2 if this station's last sending in the hold was an SDN, and
+-- after Tid1 otherwise; every reply after min TSDR. Assumes nothing.
 use Prim.Native.Nat.{ℕ, _≤_}
 use mathlib.Core.Bool.{Bool, true, false, true≢false}
 use mathlib.Core.Path.{_≡_, refl, sym, ap, _∙_}

@@ -45,7 +45,8 @@ use Rattle.state.specs.Hold.{concluded}
 use Rattle.state.specs.Answering.{UPDATE, Answered}
 use Rattle.state.specs.Refusals.{unstarted, lawless}
 use Rattle.state.specs.Calls as Calls
-use Rattle.state.specs.Calls.{called, replying, refuse, nothing, submitting, collecting, responder, idle, idleRead}
+use Rattle.state.specs.Calls.{called, replying, refuse, nothing, submitting, collecting, responder, idle}
+use Rattle.state.specs.Calls.{idleRead}
 use Rattle.state.specs.Calls.{awaitedRead, heard, sentIn, slotIn, dismissed, dismissal, broken, countOf}
 use Rattle.state.specs.Calls.{drained, forgotten, freshWorld, resetting}
 use Rattle.state.specs.Runs.{Call, call}
@@ -108,7 +109,8 @@ module _ (k : Type 0) where
       (λ m. by (Goes k calm s calm) _ _ _
       (λ e. goes-after (Acts.lets-go s f)
       (goes-after (Acts.admits a s h (false-same _ _ n) (true-same _ _ e)) (goes-begin clock _)))
-      (λ e. goes-after (Acts.notes a s h (false-same _ _ n) (false-same _ _ m) (false-same _ _ e)) (goes-still calm _)))))
+      (λ e. goes-after (Acts.notes a s h (false-same _ _ n) (false-same _ _ m) (false-same _ _ e))
+      (goes-still calm _)))))
       (λ e. goes-still calm s)
 
   -- ---- a request's end

@@ -28,7 +28,8 @@ answering x =
 abbrev leaving : Stands → Leaves Answer
 leaving x = leaves (answering x) (x .high) (x .low) (x .out)
 
-pub answered : (d : Called) (out : List ℕ) {h : Heard} {masters started marks points octets : List ℕ} {high low : Rows} {out′ : List ℕ}
+pub answered : (d : Called) (out : List ℕ) {h : Heard} {masters started marks points octets : List ℕ}
+    {high low : Rows} {out′ : List ℕ}
     → stands h masters started marks points octets high low out′ ≡ standing d out
     → leaving (stands h masters started marks points octets high low out′) ≡ told d out
 unfolding standing heardOf told answerOf stateOf

@@ -22,8 +22,10 @@ granted w d e = pick-true _ _ (same-true e)
 denied : {n m : ℕ} (w : World) (d : Called) → n ≡ m → (n ≡ 0 → ⊥) → unless m w d ≡ refuse n w
 denied w d e h = rw (← e) (pick-false _ _ (same-false h))
 
-module _ (c : Core) (k : Kept) (masters started marks points octets : List ℕ) (high low : Rows) (clock : ℕ) (out : List ℕ) where
-  module _ (room : Bool) (first second s : List ℕ) {n : ℕ} (e : n ≡ refusalIn (length out) (length first) (length second) c masters started k high low) where
+module _ (c : Core) (k : Kept) (masters started marks points octets : List ℕ) (high low : Rows) (clock : ℕ)
+    (out : List ℕ) where
+  module _ (room : Bool) (first second s : List ℕ) {n : ℕ}
+      (e : n ≡ refusalIn (length out) (length first) (length second) c masters started k high low) where
     pub frame-granted : n ≡ 0
         → frame clock room first second s (length out) (worldIn c k masters started marks points octets high low)
         ≡ heard (c .doing .phase) clock room first second s (worldIn c k masters started marks points octets high low)
@@ -39,7 +41,8 @@ module _ (c : Core) (k : Kept) (masters started marks points octets : List ℕ) 
   module _ {n : ℕ} (e : n ≡ refusalIn (length out) 0 0 c masters started k high low) where
     pub sent-granted : n ≡ 0
         → sent clock (length out) (worldIn c k masters started marks points octets high low)
-        ≡ called (sentIn (c .doing .phase) clock (worldIn c k masters started marks points octets high low .site)) (worldIn c k masters started marks points octets high low)
+        ≡ called (sentIn (c .doing .phase) clock (worldIn c k masters started marks points octets high low .site))
+        (worldIn c k masters started marks points octets high low)
     unfolding sent refusal
     sent-granted h = granted _ _ (sym e ∙ h)
 
@@ -51,7 +54,8 @@ module _ (c : Core) (k : Kept) (masters started marks points octets : List ℕ) 
 
     pub slot-granted : n ≡ 0
         → slot clock (length out) (worldIn c k masters started marks points octets high low)
-        ≡ called (slotIn (c .doing .phase) clock (worldIn c k masters started marks points octets high low .site)) (worldIn c k masters started marks points octets high low)
+        ≡ called (slotIn (c .doing .phase) clock (worldIn c k masters started marks points octets high low .site))
+        (worldIn c k masters started marks points octets high low)
     unfolding slot refusal
     slot-granted h = granted _ _ (sym e ∙ h)
 
@@ -62,10 +66,15 @@ module _ (c : Core) (k : Kept) (masters started marks points octets : List ℕ) 
     slot-denied h = denied _ _ e h
 
 -- what is known where nothing is refused
-module _ (out first second : ℕ) (c : Core) (masters started : List ℕ) (k : Kept) (high low : Rows) (e : refusalIn out first second c masters started k high low ≡ 0) where
+module _ (out first second : ℕ) (c : Core) (masters started : List ℕ) (k : Kept) (high low : Rows)
+    (e : refusalIn out first second c masters started k high low ≡ 0) where
   pub underway : Underway c
   underway =
-      record { awaited = awaited-queued out first second c masters started k high low e; sdn = sdn-queued out first second c masters started k high low e }
+      record {
+        awaited = awaited-queued out first second c masters started k high low e;
+        sdn = sdn-queued out first second
+            c masters started k high low e;
+      }
 
 pub listening : (out first second : List ℕ) (c : Core) (masters started : List ℕ) (k : Kept) (high low : Rows)
     → refusalIn (length out) (length first) (length second) c masters started k high low ≡ 0

@@ -1,5 +1,5 @@
--- One result: two answers that meet a contract of the station's records, with what they leave in everything lent, are equal.
--- Assumes nothing.
+-- One result: two answers that meet a contract of the station's records, with what they leave in everything lent, are
+-- equal. Assumes nothing.
 use Prim.Native.Nat.{ℕ}
 use mathlib.Core.Path.{_≡_, sym, ap, _∙_}
 use mathlib.Core.List.{List, []}
@@ -16,7 +16,8 @@ use Rattle.hearing.specs.Hears.{Hears}
 use Rattle.station_lent.specs.Acts.{Acts}
 
 -- ---- sent and slot expired: the answer, the masters, the marks, both rows with their data, and the output
-pub record OneResult (r q : Heard) (masters masters′ marks marks′ : List ℕ) (high high′ low low′ : Rows) (out out′ : List ℕ) : Type 0 where
+pub record OneResult (r q : Heard) (masters masters′ marks marks′ : List ℕ) (high high′ low low′ : Rows)
+    (out out′ : List ℕ) : Type 0 where
   pub answer : r ≡ q
   pub masters-are : masters ≡ masters′
   pub marks-are : marks ≡ marks′
@@ -24,7 +25,8 @@ pub record OneResult (r q : Heard) (masters masters′ marks marks′ : List ℕ
   pub low-is : low ≡ low′
   pub out-is : out ≡ out′
 
-one-of : {r q : Heard} {m m′ t k k′ p o : List ℕ} {h h′ l l′ : Rows} {x x′ : List ℕ} → stands r m t k p o h l x ≡ stands q m′ t k′ p o h′ l′ x′ → OneResult r q m m′ k k′ h h′ l l′ x x′
+one-of : {r q : Heard} {m m′ t k k′ p o : List ℕ} {h h′ l l′ : Rows} {x x′ : List ℕ}
+    → stands r m t k p o h l x ≡ stands q m′ t k′ p o h′ l′ x′ → OneResult r q m m′ k k′ h h′ l l′ x x′
 one-of e =
     record {
       answer = ap (λ (s : Stands). s .answer) e;
@@ -35,13 +37,20 @@ one-of e =
       out-is = ap (λ (s : Stands). s .out) e;
     }
 
-module _ {f : World → Called} {c : Core} {k : Kept} {masters started marks : List ℕ} {high low : Rows} {out : List ℕ} where
-  pub one-act : {r q : Heard} {m m′ n n′ : List ℕ} {h h′ l l′ : Rows} {x x′ : List ℕ} → Acts f c k masters started marks high low out r m n h l x → Acts f c k masters started marks high low out q m′ n′ h′ l′ x′ → OneResult r q m m′ n n′ h h′ l l′ x x′
-  one-act a b = one-of (a .told [] [] ∙ sym (b .told [] []))
+module _ {f : World → Called} {c : Core} {k : Kept} {masters started marks : List ℕ} {high low : Rows} {out : List ℕ}
+  where
+    pub one-act : {r q : Heard} {m m′ n n′ : List ℕ} {h h′ l l′ : Rows} {x x′ : List ℕ}
+        → Acts f c k masters started marks high low out r m n h l x
+        → Acts f c k masters started marks high low out q m′ n′ h′ l′ x′ → OneResult r q m m′ n n′ h h′ l l′ x x′
+    one-act a b = one-of (a .told [] [] ∙ sym (b .told [] []))
 
 -- ---- a frame by its phase: the same, with the octets of the remembered reply
-module _ {f : World → Called} {c : Core} {k : Kept} {masters marks points octets : List ℕ} {high low : Rows} {out : List ℕ} where
-  pub one-hearing : {r q : Heard} {m m′ n n′ o o′ : List ℕ} {h h′ l l′ : Rows} {x x′ : List ℕ} → Hears f c k masters marks points octets high low out r m n o h l x → Hears f c k masters marks points octets high low out q m′ n′ o′ h′ l′ x′ → (o ≡ o′) × (r ≡ q) × (m ≡ m′) × (n ≡ n′) × (h ≡ h′) × (l ≡ l′) × (x ≡ x′)
+module _ {f : World → Called} {c : Core} {k : Kept} {masters marks points octets : List ℕ} {high low : Rows}
+    {out : List ℕ} where
+  pub one-hearing : {r q : Heard} {m m′ n n′ o o′ : List ℕ} {h h′ l l′ : Rows} {x x′ : List ℕ}
+      → Hears f c k masters marks points octets high low out r m n o h l x
+      → Hears f c k masters marks points octets high low out q m′ n′ o′ h′ l′ x′
+      → (o ≡ o′) × (r ≡ q) × (m ≡ m′) × (n ≡ n′) × (h ≡ h′) × (l ≡ l′) × (x ≡ x′)
   one-hearing a b =
       let e = a .told [] ∙ sym (b .told []) in (
         ap (λ (s : Stands). s .octets) e,
@@ -72,14 +81,17 @@ moved-same r q e f g =
 abbrev spoken : Kept → ℕ → ℕ → Indication → Spoken
 spoken k n t i = record { kept = k; length = n; wait = record { 0 = t }; indication = i }
 
-spoken-same : (r q : Spoken) → r .kept ≡ q .kept → r .length ≡ q .length → r .wait .0 ≡ q .wait .0 → r .indication ≡ q .indication → r ≡ q
+spoken-same : (r q : Spoken) → r .kept ≡ q .kept → r .length ≡ q .length → r .wait .0 ≡ q .wait .0
+    → r .indication ≡ q .indication → r ≡ q
 spoken-same r q e f g h =
     ap (λ (k : Kept). spoken k (r .length) (r .wait .0) (r .indication)) e
     ∙ ap (λ (n : ℕ). spoken (q .kept) n (r .wait .0) (r .indication)) f
     ∙ ap (λ (t : ℕ). spoken (q .kept) (q .length) t (r .indication)) g
     ∙ ap (λ (i : Indication). spoken (q .kept) (q .length) (q .wait .0) i) h
 
-pub one-doing : {d : Done} {out : List ℕ} {r q : Moved} {m m′ n n′ : List ℕ} {h h′ l l′ : Rows} {x x′ : List ℕ} → Does d out r m n h l x → Does d out q m′ n′ h′ l′ x′ → (r ≡ q) × (m ≡ m′) × (n ≡ n′) × (h ≡ h′) × (l ≡ l′) × (x ≡ x′)
+pub one-doing : {d : Done} {out : List ℕ} {r q : Moved} {m m′ n n′ : List ℕ} {h h′ l l′ : Rows} {x x′ : List ℕ}
+    → Does d out r m n h l x → Does d out q m′ n′ h′ l′ x′
+    → (r ≡ q) × (m ≡ m′) × (n ≡ n′) × (h ≡ h′) × (l ≡ l′) × (x ≡ x′)
 one-doing {r = r} {q = q} a b =
     let e = a .site ∙ sym (b .site) in (
       moved-same r q (ap (λ (s : Site). s .core) e) (lays-place (a .laid) (b .laid)) (a .wait ∙ sym (b .wait)),
@@ -90,8 +102,10 @@ one-doing {r = r} {q = q} a b =
       lays-left (a .laid) (b .laid),
     )
 
-pub one-saying : {k : Kept} {e : List Event} {out : List ℕ} {r q : Spoken} {x x′ : List ℕ} → Says k e out r x → Says k e out q x′ → (r ≡ q) × (x ≡ x′)
+pub one-saying : {k : Kept} {e : List Event} {out : List ℕ} {r q : Spoken} {x x′ : List ℕ} → Says k e out r x
+    → Says k e out q x′ → (r ≡ q) × (x ≡ x′)
 one-saying {r = r} {q = q} a b = (
-  spoken-same r q (a .kept ∙ sym (b .kept)) (lays-place (a .laid) (b .laid)) (a .wait ∙ sym (b .wait)) (a .indication ∙ sym (b .indication)),
+  spoken-same r q (a .kept ∙ sym (b .kept)) (lays-place (a .laid) (b .laid)) (a .wait ∙ sym (b .wait))
+      (a .indication ∙ sym (b .indication)),
   lays-left (a .laid) (b .laid),
 )

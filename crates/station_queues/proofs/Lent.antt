@@ -72,7 +72,8 @@ left-accepted : (p : Priority) (k : ℕ) (q : Queue) (row area : List ℕ) (s : 
     (done (withRows p (record { row = row; area = area })
     (withCore (withQueue p q (lent p s r .site .core)) (lent p s r .site))) (accepted p k ∷ [])) (lent p s r))
     ≡ left (record { refused = 0; state = stateWith (withQueue p q (s .core)) s; place = k }) row area
-unfolding submittedOf acceptedOf called done withSite withRows withCore withQueue lent worldOf stateOf stateWith rowsOf telling adds untold
+unfolding submittedOf acceptedOf called done withSite withRows withCore withQueue lent worldOf stateOf stateWith
+    rowsOf telling adds untold
 left-accepted High k q row area s r = refl
 left-accepted Low k q row area s r = refl
 
@@ -155,7 +156,8 @@ module _ (s : State) (r : Rows) where
 
 handed-by : (p : Priority) (c : Collected) (s : State) (r : Rows)
     → handOf p c s ≡ handedBackOf (called (collecting p c (lent p s r .site)) (lent p s r))
-unfolding handOf handedBackOf called collecting done withSite withCore withQueue lent worldOf stateOf stateWith telling adds untold
+unfolding handOf handedBackOf called collecting done withSite withCore withQueue lent worldOf stateOf stateWith
+    telling adds untold
 handed-by High (Refused k) s r = refl
 handed-by High (Handed k n q) s r = refl
 handed-by Low (Refused k) s r = refl

@@ -29,18 +29,21 @@ unfolding kept
 kept-all l h = take-all ROOM l h
 
 -- an octet put behind those that are kept, and one for which there is no room
-pub put-more : (line : List ℕ) (k c : ℕ) → length line ≡ ROOM → k < ROOM → take (k + 1) (set line k c) ≡ kept (take k line ++ (c ∷ []))
+pub put-more : (line : List ℕ) (k c : ℕ) → length line ≡ ROOM → k < ROOM
+    → take (k + 1) (set line k c) ≡ kept (take k line ++ (c ∷ []))
 put-more line k c e h =
     let n : length (take k line) ≡ k = length-take-le k line (omega arith) in
     let f : k + 1 ≡ suc k = omega arith in
     rw f (take-suc-set line k c (omega arith)) ∙ sym (kept-all _ (simp length-append (omega (arith, n))))
 
-pub put-full : (line : List ℕ) (k c : ℕ) → length line ≡ ROOM → ROOM ≤ k → k ≤ ROOM → take k line ≡ kept (take k line ++ (c ∷ []))
+pub put-full : (line : List ℕ) (k c : ℕ) → length line ≡ ROOM → ROOM ≤ k → k ≤ ROOM
+    → take k line ≡ kept (take k line ++ (c ∷ []))
 unfolding kept
 put-full line k c e h m =
     let n : length (take k line) ≡ k = length-take-le k line (omega arith) in
     let f : k ≡ ROOM = omega arith in
-    rw (← f) (sym (take-append-le k (take k line) (c ∷ []) (omega (arith, n)) ∙ take-all k (take k line) (omega (arith, n))))
+    rw (← f)
+    (sym (take-append-le k (take k line) (c ∷ []) (omega (arith, n)) ∙ take-all k (take k line) (omega (arith, n))))
 
 -- ---- the walk over a block
 pub record Walked (block first : List ℕ) (from i k : ℕ) (line : List ℕ) : Type 0 where
@@ -57,9 +60,11 @@ on-more first block i h n =
     let c : ℕ = getD block i 0 in
     let rest : List ℕ = drop (i + 1) block in
     rw (left-cons block i h, same-false n, pick-false 0 (suc (before rest)) refl)
-    (kept-kept (first ++ (c ∷ [])) (take (before rest) rest) ∙ ap kept (append-assoc first (c ∷ []) (take (before rest) rest)))
+    (kept-kept (first ++ (c ∷ [])) (take (before rest) rest) ∙ ap kept
+    (append-assoc first (c ∷ []) (take (before rest) rest)))
 
-on-place : (block : List ℕ) (i : ℕ) → i < length block → (getD block i 0 ≡ NEWLINE → ⊥) → placeBehind block (i + 1) ≡ placeBehind block i
+on-place : (block : List ℕ) (i : ℕ) → i < length block → (getD block i 0 ≡ NEWLINE → ⊥)
+    → placeBehind block (i + 1) ≡ placeBehind block i
 unfolding placeBehind before
 on-place block i h n =
     let rest : List ℕ = drop (i + 1) block in
@@ -86,12 +91,16 @@ pub none-behind : (block : List ℕ) (i : ℕ) → length block ≤ i → before
 unfolding before
 none-behind block i h = rw (drop-of-length-le block h)
 
-pub walked-all : {block first line : List ℕ} {from i k : ℕ} → Walked block first from i k line → before (drop i block) ≡ 0
+pub walked-all : {block first line : List ℕ} {from i k : ℕ} → Walked block first from i k line
+    → before (drop i block) ≡ 0
     → take k line ≡ more first block from
 unfolding more
 walked-all {block} {first} {line} {from} {i} {k} w e =
-    let n : length (take k line) ≤ ROOM = omega (arith, w .long, w .near, length-take-le k line (omega (arith, w .long, w .near))) in
-    sym (ap (λ (j : ℕ). kept (take k line ++ take j (drop i block))) e ∙ ap kept (append-nil (take k line)) ∙ kept-all (take k line) n) ∙ w .left
+    let n : length (take k line) ≤ ROOM = omega
+    (arith, w .long, w .near, length-take-le k line (omega (arith, w .long, w .near))) in
+    sym
+    (ap (λ (j : ℕ). kept (take k line ++ take j (drop i block))) e ∙ ap kept (append-nil (take k line)) ∙ kept-all
+    (take k line) n) ∙ w .left
 
 walked-count : {block first line : List ℕ} {from i k : ℕ} → Walked block first from i k line → before (drop i block) ≡ 0
     → k ≡ length (more first block from)
@@ -104,7 +113,8 @@ unfolding placeBehind
 walked-place {block} {first} {line} {from} {i} {k} w e = omega (arith, e, w .place)
 
 -- the two ends of the walk
-pub met-end : {block first line : List ℕ} {from i k : ℕ} → Walked block first from i k line → i < length block → getD block i 0 ≡ NEWLINE
+pub met-end : {block first line : List ℕ} {from i k : ℕ} → Walked block first from i k line → i < length block
+    → getD block i 0 ≡ NEWLINE
     → _≡_ {A = Gathered} (record { next = i + 1; count = k; whole = true }) (gathered first block from)
 unfolding gathered
 met-end {block} {i = i} w h n =
@@ -119,7 +129,8 @@ no-end {block} {i = i} w h =
     rw (walked-count w e, ← walked-place w e, less-false h) (sym (pick-false _ _ refl))
 
 -- ---- what was gathered fits the line, and lies behind the place where it began
-gathered-next : (line block : List ℕ) (from : ℕ) (b : Bool) → less (placeBehind block from) (length block) ≡ b → from < length block → from < gathered line block from .next
+gathered-next : (line block : List ℕ) (from : ℕ) (b : Bool) → less (placeBehind block from) (length block) ≡ b
+    → from < length block → from < gathered line block from .next
 unfolding gathered pick placeBehind
 gathered-next line block from true e h = rw e (omega arith)
 gathered-next line block from false e h = rw e (omega (arith, false-less _ _ e))
@@ -131,7 +142,8 @@ more-few : (line block : List ℕ) (from : ℕ) → length (more line block from
 unfolding more kept
 more-few line block from = omega (arith, length-take ROOM (line ++ take (before (drop from block)) (drop from block)))
 
-gathered-count : (line block : List ℕ) (from : ℕ) (b : Bool) → less (placeBehind block from) (length block) ≡ b → gathered line block from .count ≤ ROOM
+gathered-count : (line block : List ℕ) (from : ℕ) (b : Bool) → less (placeBehind block from) (length block) ≡ b
+    → gathered line block from .count ≤ ROOM
 unfolding gathered pick
 gathered-count line block from true e = rw e (more-few line block from)
 gathered-count line block from false e = rw e (more-few line block from)

@@ -1,5 +1,5 @@
--- The stores of a frame: two in a row, three and a piece behind them, and a whole frame: how it is laid, and how long it
--- is. Assumes nothing.
+-- The stores of a frame: two in a row, three and a piece behind them, and a whole frame: how it is laid, and how long
+-- it is. Assumes nothing.
 use Prim.Native.Nat.{ℕ, zero, suc, _+_, _≤_}
 use mathlib.Core.Bool.{Bool, true, false}
 use mathlib.Core.Path.{_≡_, refl, sym, ap, _∙_}
@@ -42,7 +42,8 @@ framed-start : (b : List ℕ) → framed b ≡ start (length b) ++ (b ++ closing
 unfolding framed sd1 sd2
 framed-start b = pick-append (same (length b) 3) _ _ (b ++ closing b)
 
-pub laid-frame : {l m k : List ℕ} {at : ℕ} (b : List ℕ) (n : ℕ) → at + n ≤ length l → length b ≡ n → Lays l 0 (start n) 4 at m
+pub laid-frame : {l m k : List ℕ} {at : ℕ} (b : List ℕ) (n : ℕ) → at + n ≤ length l → length b ≡ n
+    → Lays l 0 (start n) 4 at m
     → k ≡ laid m at b → laid k (at + n) (closing (take n (drop at k))) ≡ laid l 0 (framed b)
 laid-frame {l} {m} {k} {at} b n h e s f =
     let fits : 0 + length (start n) ≤ length l = omega (arith, s .place) in
@@ -61,4 +62,5 @@ pub length-start : (n : ℕ) → pick (same n 0) 6 (n + 9) ≡ length (start (n 
 unfolding pick same
 length-start zero = refl
 length-start (suc n) =
-    rw (same-false {a = suc n} {b = 0} (λ q. omega arith), same-false {a = suc n + 3} {b = 3} (λ q. omega arith)) (omega arith)
+    rw (same-false {a = suc n} {b = 0} (λ q. omega arith), same-false {a = suc n + 3} {b = 3} (λ q. omega arith))
+    (omega arith)

@@ -27,7 +27,8 @@ pub record Laying (f : Fields) (x o : List ℕ) : Type 0 where
   pub leaves : laid o 0 (octets f x) ≡ left f x o
   pub near : length (octets f x) ≤ 255
 
-pub laying : (f : Fields) (x o : List ℕ) → unwritable f x ≡ 0 → length (octets f x) ≤ 255 → 255 ≤ length o → Laying f x o
+pub laying : (f : Fields) (x o : List ℕ) → unwritable f x ≡ 0 → length (octets f x) ≤ 255 → 255 ≤ length o
+    → Laying f x o
 laying f x o z n h =
     let w : Writes f x (octets f x) (length (octets f x)) = record { writable = z; octets = refl; count = refl } in
     let a : Answered f x o (Count (length (octets f x))) (laid o 0 (octets f x)) = wrote w o (omega arith) refl in

@@ -1,5 +1,5 @@
--- What is said of each kind of answer's events: nothing, a reply, a reply with an indication, an indication alone. Assumes
--- nothing.
+-- What is said of each kind of answer's events: nothing, a reply, a reply with an indication, an indication alone.
+-- Assumes nothing.
 use Prim.Native.Nat.{ℕ}
 use mathlib.Core.Bool.{Bool, true, false}
 use mathlib.Core.Path.{_≡_, refl, sym, _∙_}

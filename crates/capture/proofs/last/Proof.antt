@@ -11,11 +11,19 @@ use Rattle.capture.proofs.last.Tie as tie
 
 returns : tie.Need-returns
 unfolding last
-returns c = rw (less-true (c .before .before .before .before .before .if1 .taken), pick-true endLong end refl) (lays-within 10 (omega arith) (c .before .before .lay .ensures))
+returns c =
+    let after-lay : tie.After-lay = search depth 0 in
+    let then1 : tie.Then1 = search depth 0 in
+    rw (less-true (then1 .if1 .taken), pick-true endLong end refl)
+    (lays-within 10 (omega arith) (after-lay .lay .ensures))
 
 returns-2 : tie.Need-returns-2
 unfolding last
-returns-2 c = rw (less-false (c .before .before .before .before .before .if1 .left), pick-false endLong end refl) (lays-within 10 (omega arith) (c .before .before .lay2 .ensures))
+returns-2 c =
+    let after-lay2 : tie.After-lay2 = search depth 0 in
+    let else1 : tie.Else1 = search depth 0 in
+    rw (less-false (else1 .if1 .left), pick-false endLong end refl)
+    (lays-within 10 (omega arith) (after-lay2 .lay2 .ensures))
 
 pub last-spec : {M : Type 1} → statement M
 last-spec =

@@ -16,28 +16,46 @@ returns c = (if-less _ (c .if1 .taken) refl, (if-less _ (c .if1 .taken) refl, om
 returns-2 : tie.Need-returns-2
 unfolding listing
 returns-2 c =
-    let a = c .before .before .before .before .before .before .before .before .args in
-    listed-laid (a .s .now) (a .out .now) endShort 10 _ _ (c .before .before .before .before .before .if1 .left) (omega arith)
-    (if-less _ (c .before .before .before .before .if2 .taken) refl)
-    (c .before .before .cut .ensures)
+    let after-cut : tie.After-cut = search depth 0 in
+    let then2 : tie.Then2 = search depth 0 in
+    let else1 : tie.Else1 = search depth 0 in
+    let at-start : tie.Start = search depth 0 in
+    let a = at-start .args in
+    listed-laid (a .s .now) (a .out .now) endShort 10 _ _ (else1 .if1 .left) (omega arith)
+    (if-less _ (then2 .if2 .taken) refl)
+    (after-cut .cut .ensures)
 
 returns-3 : tie.Need-returns-3
 unfolding listing
 returns-3 c =
-    let a = c .before .before .before .before .before .before .before .before .before .before .before .args in
-    let n = c .before .before .before .before .before .before .count-of .ensures in
-    listed-laid (a .s .now) (a .out .now) endCount 10 _ _ (c .before .before .before .before .before .before .before .before .if1 .left) (omega arith)
-    (unless-less _ (c .before .before .before .before .before .before .before .if2 .left) (if-less _ (rw (← n) (c .before .before .before .before .before .if3 .taken)) refl))
-    (c .before .before .lay .ensures)
+    let after-lay : tie.After-lay = search depth 0 in
+    let then3 : tie.Then3 = search depth 0 in
+    let after-count-of : tie.After-count-of = search depth 0 in
+    let else2 : tie.Else2 = search depth 0 in
+    let else1 : tie.Else1 = search depth 0 in
+    let at-start : tie.Start = search depth 0 in
+    let a = at-start .args in
+    let n = after-count-of .count-of .ensures in
+    listed-laid (a .s .now) (a .out .now) endCount 10 _ _ (else1 .if1 .left) (omega arith)
+    (unless-less _ (else2 .if2 .left) (if-less _ (rw (← n) (then3 .if3 .taken)) refl))
+    (after-lay .lay .ensures)
 
 returns-4 : tie.Need-returns-4
 unfolding listing bodiesAt
 returns-4 c =
-    let a = c .before .before .before .before .before .before .before .before .before .before .before .args in
-    let n = c .before .before .before .before .before .before .count-of .ensures in
-    listed-laid (a .s .now) (a .out .now) endShort 10 _ _ (c .before .before .before .before .before .before .before .before .if1 .left) (omega arith)
-    (unless-less _ (c .before .before .before .before .before .before .before .if2 .left) (unless-less _ (rw (← n) (c .before .before .before .before .before .if3 .left)) (if-less _ (rw (← n) (c .before .before .before .before .if4 .taken)) refl)))
-    (c .before .before .cut2 .ensures)
+    let after-cut2 : tie.After-cut2 = search depth 0 in
+    let then4 : tie.Then4 = search depth 0 in
+    let else3 : tie.Else3 = search depth 0 in
+    let after-count-of : tie.After-count-of = search depth 0 in
+    let else2 : tie.Else2 = search depth 0 in
+    let else1 : tie.Else1 = search depth 0 in
+    let at-start : tie.Start = search depth 0 in
+    let a = at-start .args in
+    let n = after-count-of .count-of .ensures in
+    listed-laid (a .s .now) (a .out .now) endShort 10 _ _ (else1 .if1 .left) (omega arith)
+    (unless-less _ (else2 .if2 .left)
+    (unless-less _ (rw (← n) (else3 .if3 .left)) (if-less _ (rw (← n) (then4 .if4 .taken)) refl)))
+    (after-cut2 .cut2 .ensures)
 
 bodies-requires : tie.Need-bodies-requires
 unfolding bodiesAt
@@ -46,11 +64,19 @@ bodies-requires c κs = omega arith
 returns-5 : tie.Need-returns-5
 unfolding listing bodiesAt
 returns-5 c =
-    let a = c .before .before .before .before .before .before .before .before .before .before .before .args in
-    let n = c .before .before .before .before .before .before .count-of .ensures in
-    listed-laid (a .s .now) (a .out .now) _ _ _ _ (c .before .before .before .before .before .before .before .before .if1 .left) (omega arith)
-    (unless-less _ (c .before .before .before .before .before .before .before .if2 .left) (unless-less _ (rw (← n) (c .before .before .before .before .before .if3 .left)) (unless-less _ (rw (← n) (c .before .before .before .before .if4 .left)) (cc))))
-    (c .before .before .bodies .ensures)
+    let after-bodies : tie.After-bodies = search depth 0 in
+    let else4 : tie.Else4 = search depth 0 in
+    let else3 : tie.Else3 = search depth 0 in
+    let after-count-of : tie.After-count-of = search depth 0 in
+    let else2 : tie.Else2 = search depth 0 in
+    let else1 : tie.Else1 = search depth 0 in
+    let at-start : tie.Start = search depth 0 in
+    let a = at-start .args in
+    let n = after-count-of .count-of .ensures in
+    listed-laid (a .s .now) (a .out .now) _ _ _ _ (else1 .if1 .left) (omega arith)
+    (unless-less _ (else2 .if2 .left)
+    (unless-less _ (rw (← n) (else3 .if3 .left)) (unless-less _ (rw (← n) (else4 .if4 .left)) (cc))))
+    (after-bodies .bodies .ensures)
 
 pub list-spec : {M : Type 1} → statement M
 list-spec =

@@ -8,19 +8,33 @@ use Rattle.conclude.proofs.retry.Tie as tie
 
 finish-requires : tie.Need-finish-requires
 finish-requires c κs =
-    let p = c .before .before .before .before .before .before .before .before .before .before .before .before .before .before .before .before .before .pre in
+    let then1 : tie.Then1 = search depth 0 in
+    let after-settings : tie.After-settings = search depth 0 in
+    let start : tie.Start = search depth 0 in
+    let p = start .pre in
     (p .0, (p .1 .0, (omega arith, p .1 .1)))
 
 again-requires : tie.Need-again-requires
 again-requires c κs =
-    let p = c .before .before .before .before .before .before .before .before .before .before .before .before .before .before .before .before .pre in
-    (p .0, (p .1 .0, (omega (arith, c .before .before .before .before .before .before .if1 .left, p .0 .core .retries), p .1 .1)))
+    let else1 : tie.Else1 = search depth 0 in
+    let after-settings : tie.After-settings = search depth 0 in
+    let start : tie.Start = search depth 0 in
+    let p = start .pre in
+    (p .0, (p .1 .0, (omega (arith, else1 .if1 .left, p .0 .core .retries), p .1 .1)))
 
 returns : tie.Need-returns
-returns c = does-as (retry-lost _ _ (c .before .before .before .before .before .before .before .before .before .before .before .before .before .before .before .before .before .before .if1 .taken)) (c .before .before .before .before .before .before .before .before .before .before .finish .ensures)
+returns c =
+    let after-harea : tie.After-harea = search depth 0 in
+    let after-finish : tie.After-finish = search depth 0 in
+    let after-finish-arg : tie.After-finish-arg = search depth 0 in
+    let then1 : tie.Then1 = search depth 0 in
+    does-as (retry-lost _ _ (then1 .if1 .taken)) (after-finish .finish .ensures)
 
 returns-2 : tie.Need-returns-2
-returns-2 c = does-as (retry-again _ _ (c .before .before .before .before .before .before .before .before .before .if1 .left)) (c .before .before .again .ensures)
+returns-2 c =
+    let after-again : tie.After-again = search depth 0 in
+    let else1 : tie.Else1 = search depth 0 in
+    does-as (retry-again _ _ (else1 .if1 .left)) (after-again .again .ensures)
 
 pub retry-spec : {M : Type 1} → statement M
 retry-spec =

@@ -11,15 +11,21 @@ use Rattle.control.proofs.listed.Tie as tie
 
 returns : tie.Need-returns
 unfolding byHalves
-returns c = if-less _ (c .before .before .if1 .taken) (if-less _ (c .before .if2 .taken) (c .replied .ensures)) ∙ halves _ (omega arith)
+returns c =
+    if-less _ (c .before .before .if1 .taken) (if-less _ (c .before .if2 .taken) (c .replied .ensures)) ∙ halves _
+    (omega arith)
 
 returns-2 : tie.Need-returns-2
 unfolding byHalves
-returns-2 c = if-less _ (c .before .before .if1 .taken) (unless-less _ (c .before .if2 .left) (c .requested .ensures)) ∙ halves _ (omega arith)
+returns-2 c =
+    if-less _ (c .before .before .if1 .taken) (unless-less _ (c .before .if2 .left) (c .requested .ensures)) ∙ halves
+    _ (omega arith)
 
 returns-3 : tie.Need-returns-3
 unfolding byHalves
-returns-3 c = unless-less _ (c .before .before .if1 .left) (if-less _ (c .before .if3 .taken) (c .numbered .ensures)) ∙ halves _ (omega arith)
+returns-3 c =
+    unless-less _ (c .before .before .if1 .left) (if-less _ (c .before .if3 .taken) (c .numbered .ensures)) ∙ halves _
+    (omega arith)
 
 returns-4 : tie.Need-returns-4
 unfolding byHalves

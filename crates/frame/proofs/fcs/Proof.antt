@@ -1,4 +1,5 @@
--- `frame::fcs` meets its contract. The loop's invariant: the sum so far is the FCS of the octets passed. Assumes nothing.
+-- `frame::fcs` meets its contract. The loop's invariant: the sum so far is the FCS of the octets passed. Assumes
+-- nothing.
 use Prim.Native.Nat.{_≤_, _-_}
 use mathlib.Core.Path.{_≡_, ap, _∙_}
 use native.Mathlib.Omega.{arith}
@@ -33,4 +34,5 @@ returns c =
 pub fcs-spec : {M : Type 1} → statement M
 fcs-spec =
     tie.close
-    (tie.spec Inv-loop μ-loop loop-holds (λ c. omega arith) (λ c κs. tt) (λ c. omega arith) (λ c. omega arith) loop-again returns)
+    (tie.spec Inv-loop μ-loop loop-holds (λ c. omega arith) (λ c κs. tt) (λ c. omega arith) (λ c. omega arith)
+    loop-again returns)

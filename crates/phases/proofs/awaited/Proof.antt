@@ -11,15 +11,40 @@ use Rattle.phases.proofs.awaited.Tie as tie
 good-requires : tie.Need-good-requires
 unfolding shown
 good-requires c κs =
-    let p = c .before .before .before .before .before .before .before .before .before .before .before .before .before .before .before .before .before .pre in
-    (p .0, (p .1 .0, (rw (c .before .before .before .before .before .before .part .ensures) (data-most _ _ _ (sym (c .before .before .before .before .before .before .before .before .before .before .read .ensures) ∙ c .before .before .before .before .before .before .before .before .f .given .1)), p .1 .1)))
+    let after-part : tie.After-part = search depth 0 in
+    let after-f : tie.After-f = search depth 0 in
+    let after-read : tie.After-read = search depth 0 in
+    let start : tie.Start = search depth 0 in
+    let p = start .pre in (
+      p .0,
+      (
+        p .1 .0,
+        (
+          rw (after-part .part .ensures) (data-most _ _ _ (sym (after-read .read .ensures) ∙ after-f .f .given .1)),
+          p .1 .1,
+        ),
+      ),
+    )
 
 returns : tie.Need-returns
-returns c = does-as (awaited-bad _ _ _ (sym (c .before .before .before .before .before .before .before .before .before .before .before .before .before .before .before .before .before .before .before .read .ensures) ∙ c .before .before .before .before .before .before .before .before .before .before .before .before .before .before .before .before .before .enum-told .given .1)) (c .before .before .before .before .before .before .before .before .before .before .retry .ensures)
+returns c =
+    let after-harea : tie.After-harea = search depth 0 in
+    let after-retry : tie.After-retry = search depth 0 in
+    let after-enum-told : tie.After-enum-told = search depth 0 in
+    let after-read : tie.After-read = search depth 0 in
+    does-as (awaited-bad _ _ _ (sym (after-read .read .ensures) ∙ after-enum-told .enum-told .given .1))
+    (after-retry .retry .ensures)
 
 returns-2 : tie.Need-returns-2
 unfolding shown
-returns-2 c = does-as (awaited-good _ _ _ (sym (c .before .before .before .before .before .before .before .before .before .before .before .before .before .before .before .before .before .before .before .before .before .read .ensures) ∙ c .before .before .before .before .before .before .before .before .before .before .before .before .before .before .before .before .before .before .before .f .given .1)) (rw (← in-flight _ _ _ _ _, ← c .before .before .before .before .before .before .before .before .before .before .before .before .before .before .before .before .before .part .ensures) (c .before .before .before .before .before .before .before .before .before .before .good2 .ensures))
+returns-2 c =
+    let after-harea2 : tie.After-harea2 = search depth 0 in
+    let after-good2 : tie.After-good2 = search depth 0 in
+    let after-part : tie.After-part = search depth 0 in
+    let after-f : tie.After-f = search depth 0 in
+    let after-read : tie.After-read = search depth 0 in
+    does-as (awaited-good _ _ _ (sym (after-read .read .ensures) ∙ after-f .f .given .1))
+    (rw (← in-flight _ _ _ _ _, ← after-part .part .ensures) (after-good2 .good2 .ensures))
 
 pub awaited-spec : {M : Type 1} → statement M
 awaited-spec =

@@ -4,7 +4,12 @@ use Rattle.phases.proofs.good.Statement.{statement}
 use Rattle.phases.proofs.good.Tie as tie
 
 returns : tie.Need-returns
-returns c = rw (← c .before .before .before .before .before .before .before .before .before .before .before .before .before .before .before .before .before .before .in-flight .ensures, ← c .before .before .before .before .before .before .before .before .before .before .before .before .before .before .before .before .before .judge .ensures) (c .before .before .before .before .before .before .before .before .before .before .conclude .ensures)
+returns c =
+    let after-harea : tie.After-harea = search depth 0 in
+    let after-conclude : tie.After-conclude = search depth 0 in
+    let after-judge : tie.After-judge = search depth 0 in
+    let after-in-flight : tie.After-in-flight = search depth 0 in
+    rw (← after-in-flight .in-flight .ensures, ← after-judge .judge .ensures) (after-conclude .conclude .ensures)
 
 pub good-spec : {M : Type 1} → statement M
 good-spec =

@@ -8,23 +8,40 @@ use Rattle.phases.proofs.slot_in.Tie as tie
 
 retry-requires : tie.Need-retry-requires
 retry-requires c κs =
-    let p = c .before .before .before .before .before .before .before .before .before .before .before .before .before .before .before .pre in
-    (p .0, (p .1 .0 .awaited (c .before .before .before .before .before .before .before .enum-told2 .given .1), p .1 .1))
+    let after-enum-told2 : tie.After-enum-told2 = search depth 0 in
+    let after-doing : tie.After-doing = search depth 0 in
+    let start : tie.Start = search depth 0 in
+    let p = start .pre in
+    (p .0, (p .1 .0 .awaited (after-enum-told2 .enum-told2 .given .1), p .1 .1))
 
 returns : tie.Need-returns
-returns c = does-as (slot-idle _ _ (c .before .enum-told .given .1)) (does-still _ _ _ _ _ _ (c .quiet .ensures))
+returns c =
+    let after-enum-told : tie.After-enum-told = search depth 0 in
+    does-as (slot-idle _ _ (after-enum-told .enum-told .given .1)) (does-still _ _ _ _ _ _ (c .quiet .ensures))
 
 returns-2 : tie.Need-returns-2
-returns-2 c = does-as (slot-awaited _ _ (c .before .before .before .before .before .before .before .before .before .before .before .before .before .before .before .before .before .before .enum-told2 .given .1)) (c .before .before .before .before .before .before .before .before .before .before .retry .ensures)
+returns-2 c =
+    let after-harea : tie.After-harea = search depth 0 in
+    let after-retry : tie.After-retry = search depth 0 in
+    let after-retry-arg : tie.After-retry-arg = search depth 0 in
+    let after-enum-told2 : tie.After-enum-told2 = search depth 0 in
+    does-as (slot-awaited _ _ (after-enum-told2 .enum-told2 .given .1)) (after-retry .retry .ensures)
 
 returns-3 : tie.Need-returns-3
-returns-3 c = does-as (slot-sdn _ _ (c .before .enum-told3 .given .1)) (does-still _ _ _ _ _ _ (c .quiet2 .ensures))
+returns-3 c =
+    let after-enum-told3 : tie.After-enum-told3 = search depth 0 in
+    does-as (slot-sdn _ _ (after-enum-told3 .enum-told3 .given .1)) (does-still _ _ _ _ _ _ (c .quiet2 .ensures))
 
 returns-4 : tie.Need-returns-4
-returns-4 c = does-as (slot-check _ _ (c .before .before .before .before .before .enum-told4 .given .1)) (c .before .before .recheck .ensures .does _ _ _)
+returns-4 c =
+    let after-recheck : tie.After-recheck = search depth 0 in
+    let after-enum-told4 : tie.After-enum-told4 = search depth 0 in
+    does-as (slot-check _ _ (after-enum-told4 .enum-told4 .given .1)) (after-recheck .recheck .ensures .does _ _ _)
 
 returns-5 : tie.Need-returns-5
-returns-5 c = does-as (slot-self _ _ (c .before .enum-told5 .given .1)) (does-still _ _ _ _ _ _ (c .quiet3 .ensures))
+returns-5 c =
+    let after-enum-told5 : tie.After-enum-told5 = search depth 0 in
+    does-as (slot-self _ _ (after-enum-told5 .enum-told5 .given .1)) (does-still _ _ _ _ _ _ (c .quiet3 .ensures))
 
 pub slot-in-spec : {M : Type 1} → statement M
 slot-in-spec =

@@ -8,10 +8,22 @@ use Rattle.state.specs.declared.Priority.the-variants.{High, Low}
 use Rattle.play_queues.proofs.Beside.{collected-beside}
 
 returns : tie.Need-returns
-returns c = let a = c .before .before .before .before .before .before .before .before .before .before .before .args in rw (c .before .before .before .before .enum-told .given .1) (collected-beside High (a .s) _ (rows (a .low .now) (a .larea .now)) _ (c .before .before .collect-from .ensures))
+returns c =
+    let after-collect-from : tie.After-collect-from = search depth 0 in
+    let after-enum-told : tie.After-enum-told = search depth 0 in
+    let start : tie.Start = search depth 0 in
+    let a = start .args in rw (after-enum-told .enum-told .given .1)
+    (collected-beside High (a .s) _ (rows (a .low .now) (a .larea .now)) _
+    (after-collect-from .collect-from .ensures))
 
 returns-2 : tie.Need-returns-2
-returns-2 c = let a = c .before .before .before .before .before .before .before .before .before .before .before .args in rw (c .before .before .before .before .enum-told2 .given .1) (collected-beside Low (a .s) _ (rows (a .high .now) (a .harea .now)) _ (c .before .before .collect-from2 .ensures))
+returns-2 c =
+    let after-collect-from2 : tie.After-collect-from2 = search depth 0 in
+    let after-enum-told2 : tie.After-enum-told2 = search depth 0 in
+    let start : tie.Start = search depth 0 in
+    let a = start .args in rw (after-enum-told2 .enum-told2 .given .1)
+    (collected-beside Low (a .s) _ (rows (a .high .now) (a .harea .now)) _
+    (after-collect-from2 .collect-from2 .ensures))
 
 pub collect-spec : {M : Type 1} → statement M
 collect-spec =

@@ -6,7 +6,11 @@ use Rattle.play_queues.proofs.reset.Tie as tie
 use Rattle.play_queues.proofs.Told.{reset-told}
 
 returns : tie.Need-returns
-returns c = reset-told _ _ (c .before .before .before .before .before .before .before .before .before .before .before .before .before .reset .ensures) (c .before .before .plain .ensures)
+returns c =
+    let after-plain : tie.After-plain = search depth 0 in
+    let after-low : tie.After-low = search depth 0 in
+    let after-reset : tie.After-reset = search depth 0 in
+    reset-told _ _ (after-reset .reset .ensures) (after-plain .plain .ensures)
 
 pub reset-spec : {M : Type 1} → statement M
 reset-spec =

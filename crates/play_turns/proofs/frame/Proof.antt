@@ -9,10 +9,23 @@ use lib.ListN.{length-replicate}
 use Rattle.printed_lines.proofs.saying.Tells.{says-told}
 
 told-requires : tie.Need-told-requires
-told-requires c κs = (omega (arith, c .before .before .before .before .before .before .before .before .before .before .before .frame .kept .1 .1 .1 .1 .1 .1 .1 .1 .1 .1 .0, length-replicate {A = ℕ} 255 0), c .before .before .before .before .before .before .before .before .before .before .before .before .before .before .before .before .before .before .before .before .before .before .before .before .before .pre .0, c .before .before .before .before .before .before .before .before .before .before .before .before .before .before .before .before .before .before .before .before .before .before .before .before .before .pre .1)
+told-requires c κs =
+    let after-low : tie.After-low = search depth 0 in
+    let after-frame : tie.After-frame = search depth 0 in
+    let after-out : tie.After-out = search depth 0 in
+    let after-slice-known3 : tie.After-slice-known3 = search depth 0 in
+    let start : tie.Start = search depth 0 in (
+      omega (arith, after-frame .frame .kept .1 .1 .1 .1 .1 .1 .1 .1 .1 .1 .0, length-replicate {A = ℕ} 255 0),
+      start .pre .0,
+      start .pre .1,
+    )
 
 returns : tie.Need-returns
-returns c = says-told _ _ _ _ (c .before .before .before .before .before .before .before .before .before .before .before .before .before .before .frame .ensures) (c .before .before .told .ensures .0) (c .before .before .told .ensures .1)
+returns c =
+    let after-told : tie.After-told = search depth 0 in
+    let after-low : tie.After-low = search depth 0 in
+    let after-frame : tie.After-frame = search depth 0 in
+    says-told _ _ _ _ (after-frame .frame .ensures) (after-told .told .ensures .0) (after-told .told .ensures .1)
 
 pub frame-spec : {M : Type 1} → statement M
 frame-spec =

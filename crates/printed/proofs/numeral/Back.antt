@@ -6,7 +6,8 @@ use mathlib.Core.Path.{_≡_, refl, sym, _∙_}
 use native.Mathlib.Omega.{arith}
 use lib.ListN.{length, length-append}
 use Rattle.choice.specs.Choice.{pick, less, said}
-use Rattle.choice.proofs.Rules.{pick-true, pick-false, less-false, true-less, false-less, same-false, said-true, both-true}
+use Rattle.choice.proofs.Rules.{pick-true, pick-false, less-false, true-less, false-less, same-false, said-true}
+use Rattle.choice.proofs.Rules.{both-true}
 use Rattle.typed.specs.Digits.{digit, allDigits, valueOn, number, readOn, decimal}
 use Rattle.printed.specs.Numeral.{numeral, numeralIn}
 use Rattle.printed.proofs.numeral.Steps.{numeral-one, numeral-more, power}
@@ -31,7 +32,8 @@ value-behind v (c ∷ l) d = value-behind (10 * v + (c - 48)) l d
 
 -- ---- what is printed: digits, at least one, of the number's value
 -- what holds of a number in one digit, and of one with a digit more than another, holds of every number
-each : (P : List ℕ → Type 0) (k n : ℕ) → (n < 10 → P ([] ++ ((48 + n) ∷ []))) → (10 ≤ n → P (numeralIn k (n / 10) ++ ((48 + n % 10) ∷ []))) → P (numeralIn (suc k) n)
+each : (P : List ℕ → Type 0) (k n : ℕ) → (n < 10 → P ([] ++ ((48 + n) ∷ [])))
+    → (10 ≤ n → P (numeralIn k (n / 10) ++ ((48 + n % 10) ∷ []))) → P (numeralIn (suc k) n)
 each P k n f g = from (less n 10) refl
   where
     from : (b : Bool) → less n 10 ≡ b → P (numeralIn (suc k) n)
@@ -42,16 +44,20 @@ all-printed : (k n : ℕ) → allDigits (numeralIn k n) ≡ true
 unfolding numeralIn allDigits
 all-printed zero n = refl
 all-printed (suc k) n =
-    each (λ l. allDigits l ≡ true) k n (all-behind [] n refl) (λ h. all-behind (numeralIn k (n / 10)) (n % 10) (all-printed k (n / 10)) (omega arith))
+    each (λ l. allDigits l ≡ true) k n (all-behind [] n refl)
+    (λ h. all-behind (numeralIn k (n / 10)) (n % 10) (all-printed k (n / 10)) (omega arith))
 
 value-printed : (k n : ℕ) → n < power k → valueOn 0 (numeralIn k n) ≡ n
 unfolding power numeralIn valueOn
 value-printed zero n h = omega arith
 value-printed (suc k) n h =
-    each (λ l. valueOn 0 l ≡ n) k n (λ g. value-behind 0 [] n ∙ omega arith) (λ g. value-behind 0 (numeralIn k (n / 10)) (n % 10) ∙ rw (value-printed k (n / 10) (omega arith)) (omega arith))
+    each (λ l. valueOn 0 l ≡ n) k n (λ g. value-behind 0 [] n ∙ omega arith)
+    (λ g. value-behind 0 (numeralIn k (n / 10)) (n % 10) ∙ rw (value-printed k (n / 10) (omega arith))
+    (omega arith))
 
 some-printed : (k n : ℕ) → length (numeralIn (suc k) n) ≡ 0 → ⊥
-some-printed k n = each (λ l. length l ≡ 0 → ⊥) k n (λ h. behind [] (48 + n)) (λ h. behind (numeralIn k (n / 10)) (48 + n % 10))
+some-printed k n =
+    each (λ l. length l ≡ 0 → ⊥) k n (λ h. behind [] (48 + n)) (λ h. behind (numeralIn k (n / 10)) (48 + n % 10))
   where
     behind : (l : List ℕ) (d : ℕ) → length (l ++ (d ∷ [])) ≡ 0 → ⊥
     behind l d e = omega (arith, length-append l (d ∷ []))

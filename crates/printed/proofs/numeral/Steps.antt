@@ -31,12 +31,15 @@ pub numeral-within : (j k n : ℕ) → n < power (suc j) → j ≤ k → numeral
 unfolding power
 numeral-within zero k n h m = numeral-one zero n (omega arith) ∙ sym (numeral-one k n (omega arith))
 numeral-within (suc j) zero n h m = absurd (omega arith)
-numeral-within (suc j) (suc k) n h m = from (less n 10) refl (λ g. numeral-within j k (n / 10) (omega arith) (omega arith))
+numeral-within (suc j) (suc k) n h m =
+    from (less n 10) refl (λ g. numeral-within j k (n / 10) (omega arith) (omega arith))
   where
-    from : (b : Bool) → less n 10 ≡ b → (10 ≤ n → numeralIn (suc j) (n / 10) ≡ numeralIn (suc k) (n / 10)) → numeralIn (suc (suc j)) n ≡ numeralIn (suc (suc k)) n
+    from : (b : Bool) → less n 10 ≡ b → (10 ≤ n → numeralIn (suc j) (n / 10) ≡ numeralIn (suc k) (n / 10))
+        → numeralIn (suc (suc j)) n ≡ numeralIn (suc (suc k)) n
     from true e f = numeral-one (suc j) n (true-less n 10 e) ∙ sym (numeral-one (suc k) n (true-less n 10 e))
     from false e f =
-        numeral-more (suc j) n (false-less n 10 e) ∙ rw (f (false-less n 10 e)) (sym (numeral-more (suc k) n (false-less n 10 e)))
+        numeral-more (suc j) n (false-less n 10 e) ∙ rw (f (false-less n 10 e))
+        (sym (numeral-more (suc k) n (false-less n 10 e)))
 
 -- an octet's number has at most three digits
 pub numeral-octet : (n : ℕ) → n < 256 → numeralIn 3 n ≡ numeral n
@@ -48,7 +51,8 @@ pub lays-none : (l : List ℕ) (at k n : ℕ) → k ≡ 0 → Lays l at (numeral
 unfolding numeralIn
 lays-none l at k n e = rw e (record { place = omega arith; left = sym (laid-nil l at); near = omega arith })
 
-pub lays-one : (l : List ℕ) (at k n : ℕ) → at + k ≤ length l → (k ≡ 0 → ⊥) → n < 10 → Lays l at (numeralIn k n) k (at + 1) (set l at (48 + n))
+pub lays-one : (l : List ℕ) (at k n : ℕ) → at + k ≤ length l → (k ≡ 0 → ⊥) → n < 10
+    → Lays l at (numeralIn k n) k (at + 1) (set l at (48 + n))
 lays-one l at zero n h m e = absurd (m refl)
 lays-one l at (suc k) n h m e =
     rw (numeral-one k n e) (lays-sets l at ((48 + n) ∷ []) (suc k) _ _ (omega arith) (omega arith) refl refl)
@@ -61,4 +65,5 @@ lays-last l at (suc k) n r m h z e x =
     let y = rw p at x in
     let g : r + 1 ≤ length m = lays-room 1 (omega arith) y in
     rw (numeral-more k n e)
-    (lays-within (suc k) (omega arith) (lays-then (omega arith) y (lays-sets m r ((48 + n % 10) ∷ []) 1 _ _ (omega arith) (omega arith) refl refl)))
+    (lays-within (suc k) (omega arith)
+    (lays-then (omega arith) y (lays-sets m r ((48 + n % 10) ∷ []) 1 _ _ (omega arith) (omega arith) refl refl)))

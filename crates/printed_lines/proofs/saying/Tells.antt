@@ -21,16 +21,24 @@ line-told : (d : Called) (octets out : List ℕ) {a : Answer} {high low : Rows} 
 unfolding told answerTo answerOf
 line-told d octets out e =
     let t : Telling = telling (d .events) in
-    ap (λ (x : Leaves Answer). answerLine (x .answer .refused) (x .answer .wait .0) (take (x .answer .length) (x .out)) (x .answer .indication) octets) e
-    ∙ ap (λ (x : List ℕ). answerLine (t .refused) (t .wait) x (t .indication) octets) (laid-part out 0 (t .octets) (omega arith))
+    ap
+    (λ (x : Leaves Answer). answerLine (x .answer .refused) (x .answer .wait .0) (take (x .answer .length) (x .out))
+    (x .answer .indication) octets) e
+    ∙ ap (λ (x : List ℕ). answerLine (t .refused) (t .wait) x (t .indication) octets)
+    (laid-part out 0 (t .octets) (omega arith))
 
-pub says-told : (d : Called) (octets out text : List ℕ) {a : Answer} {high low : Rows} {out′ text′ : List ℕ} {p : Played}
+pub says-told : (d : Called) (octets out text : List ℕ) {a : Answer} {high low : Rows} {out′ text′ : List ℕ}
+    {p : Played}
     → leaves a high low out′ ≡ told d out → p .state ≡ a .state
-    → Lays text 0 (answerLine (a .refused) (a .wait .0) (take (a .length) out′) (a .indication) octets) 8192 (p .length) text′
+    → Lays text 0 (answerLine (a .refused) (a .wait .0) (take (a .length) out′) (a .indication) octets) 8192
+    (p .length) text′
     → leaves p high low text′ ≡ played (answerOf octets) d text
 unfolding told answerTo printing playing
 says-told d octets out text {high = high} {low = low} {text′ = text′} {p = p} e f x =
     let g = line-told d octets out e in
     ap (λ (s : State). leaves {A = Played} (record { state = s; length = p .length }) high low text′) f
     ∙ rw (line-length x g, line-left x g)
-    (ap (λ (y : Leaves Answer). leaves {A = Played} (record { state = y .answer .state; length = length (answerOf octets d) }) (y .high) (y .low) (laid text 0 (answerOf octets d))) e)
+    (ap
+    (λ (y : Leaves Answer). leaves {A = Played}
+    (record { state = y .answer .state; length = length (answerOf octets d) }) (y .high) (y .low)
+    (laid text 0 (answerOf octets d))) e)

@@ -22,12 +22,14 @@ pub record Comes (l : List ℕ) (at : ℕ) (u : List ℕ) (w : ℕ) (v m : List 
 pub comes-all : (l : List ℕ) (at : ℕ) (u : List ℕ) → Comes l at u at u l
 comes-all l at u = record { place = refl; left = refl }
 
-pub comes-end : (l : List ℕ) (at : ℕ) (u : List ℕ) (w : ℕ) (m : List ℕ) (room : ℕ) → w ≤ at + room → Comes l at u w [] m → Lays l at u room w m
+pub comes-end : (l : List ℕ) (at : ℕ) (u : List ℕ) (w : ℕ) (m : List ℕ) (room : ℕ) → w ≤ at + room
+    → Comes l at u w [] m → Lays l at u room w m
 comes-end l at u w m room h x =
     record { place = omega (arith, x .place); left = sym (laid-nil m w) ∙ x .left; near = omega (arith, x .place) }
 
 -- a step lays the first piece of what is to come
-pub comes-step : (l : List ℕ) (at : ℕ) (u : List ℕ) (w : ℕ) (x v m : List ℕ) (room q : ℕ) (n : List ℕ) → w + room ≤ length m
+pub comes-step : (l : List ℕ) (at : ℕ) (u : List ℕ) (w : ℕ) (x v m : List ℕ) (room q : ℕ) (n : List ℕ)
+    → w + room ≤ length m
     → Comes l at u w (x ++ v) m → Lays m w x room q n → Comes l at u q v n
 comes-step l at u w x v m room q n h c y =
     record {
@@ -40,7 +42,8 @@ on : (a : ℕ) → a < 127 → 127 - a ≡ suc (127 - (a + 1))
 on a h = omega arith
 
 pub joined-in : (masters : List ℕ) (first : Bool) (a : ℕ) → a < 127 → member masters a ≡ true
-    → joined first (127 - a) a masters ≡ pick first (numeral a) (comma ++ numeral a) ++ joined false (127 - (a + 1)) (a + 1) masters
+    → joined first (127 - a) a masters
+    ≡ pick first (numeral a) (comma ++ numeral a) ++ joined false (127 - (a + 1)) (a + 1) masters
 unfolding joined
 joined-in masters first a h e = rw (on a h) (pick-true _ _ e)
 

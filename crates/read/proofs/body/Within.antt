@@ -34,4 +34,5 @@ data-within b h e =
     let e₃ = held _ _ 9 (omega arith) e₂ .1 in
     let m = passed _ 10 _ (omega arith) e₃ in
     let n = passed _ 10 _ (omega arith) (m .1) in
-    misnamed-within b (octet b 1) (3 + extensions (octet b 0)) 62 (misnamed-within b (octet b 0) 3 63 h (is-said (m .0))) (is-said (n .0))
+    misnamed-within b (octet b 1) (3 + extensions (octet b 0)) 62
+    (misnamed-within b (octet b 0) 3 63 h (is-said (m .0))) (is-said (n .0))

@@ -12,18 +12,22 @@ use Rattle.read.proofs.part.Tie as tie
 
 returns : tie.Need-returns
 returns c =
-    let a = c .before .before .args in
+    let at-start : tie.Start = search depth 0 in
+    let a = at-start .args in
     rw (drop-of-length-le (a .s .now) {i = a .start} (omega arith)) (sym (take-nil (a .count)))
 
 returns-2 : tie.Need-returns-2
 returns-2 c =
-    let a = c .before .before .before .args in
+    let at-start : tie.Start = search depth 0 in
+    let a = at-start .args in
     let l = drop (a .start) (a .s .now) in
-    take-all (length (a .s .now) - a .start) l (simp length-drop (omega arith)) ∙ sym (take-all (a .count) l (simp length-drop (omega arith)))
+    take-all (length (a .s .now) - a .start) l (simp length-drop (omega arith)) ∙ sym
+    (take-all (a .count) l (simp length-drop (omega arith)))
 
 returns-3 : tie.Need-returns-3
 returns-3 c =
-    let a = c .before .before .before .args in
+    let at-start : tie.Start = search depth 0 in
+    let a = at-start .args in
     ap (λ (k : ℕ). take k (drop (a .start) (a .s .now))) (add-sub-cancel-left (a .start) (a .count))
 
 pub part-spec : {M : Type 1} → statement M

@@ -1,5 +1,5 @@
--- `read::read` meets its contract: each return is one case of the chain, and where the forms with a body meet, so is each form.
--- Assumes nothing.
+-- `read::read` meets its contract: each return is one case of the chain, and where the forms with a body meet, so is
+-- each form. Assumes nothing.
 use Prim.Native.Nat.{_≤_}
 use mathlib.Core.Logic.{⊎-elim}
 use native.Mathlib.Omega.{arith}
@@ -12,7 +12,8 @@ use Rattle.read.proofs.read.Tie as tie
 
 read-body-requires : tie.Need-read-body-requires
 read-body-requires c κs =
-    let s = c .before .before .before .before .args .s .now in
+    let start : tie.Start = search depth 0 in
+    let s = start .args .s .now in
     ⊎-elim (λ sd1. omega arith)
     (⊎-elim
     (λ sd2.
@@ -24,7 +25,9 @@ read-body-requires c κs =
 returns-7 : tie.Need-returns-7
 unfolding read readSd2
 returns-7 c =
-    let some = c .before .before .before .if1 .left in
+    let joined2 : tie.Joined2 = search depth 0 in
+    let else1 : tie.Else1 = search depth 0 in
+    let some = else1 .if1 .left in
     ⊎-elim (λ sd1. unless-same _ some (if-same _ (sd1 .0 .taken) (cc)))
     (⊎-elim
     (λ sd2.
@@ -34,7 +37,7 @@ returns-7 c =
     (λ sd3.
     unless-same _ some
     (unless-same _ (sd3 .0 .left) (unless-same _ (sd3 .1 .left) (if-same _ (sd3 .2 .taken) (cc))))))
-    (c .before .if2 .came)
+    (joined2 .if2 .came)
 
 pub read-spec : {M : Type 1} → statement M
 unfolding read readSd2

@@ -20,18 +20,23 @@ returns-2 c = search picks depth 20
 returns-3 : tie.Need-returns-3
 unfolding readBody
 returns-3 c =
-    if-same _ (c .before .before .before .before .before .before .if1 .left)
-    (if-same _ (c .before .before .before .before .if2 .left) (unless-same _ (λ q. c .if3 .taken (cc)) refl))
+    let else2 : tie.Else2 = search depth 0 in
+    let else1 : tie.Else1 = search depth 0 in
+    if-same _ (else1 .if1 .left)
+    (if-same _ (else2 .if2 .left) (unless-same _ (λ q. c .if3 .taken (cc)) refl))
 
 body-answer-requires : tie.Need-body-answer-requires
 body-answer-requires c κs =
-    (rw (c .before .before .before .part .ensures) (simp (length-take, length-drop) (omega arith)), omega arith)
+    let after-part : tie.After-part = search depth 0 in
+    (rw (after-part .part .ensures) (simp (length-take, length-drop) (omega arith)), omega arith)
 
 returns-4 : tie.Need-returns-4
 unfolding readBody
 returns-4 c =
-    if-same _ (c .before .before .before .before .before .before .before .if1 .left)
-    (if-same _ (c .before .before .before .before .before .if2 .left) (if-same _ (cc) (cc)))
+    let else2 : tie.Else2 = search depth 0 in
+    let else1 : tie.Else1 = search depth 0 in
+    if-same _ (else1 .if1 .left)
+    (if-same _ (else2 .if2 .left) (if-same _ (cc) (cc)))
 
 pub read-body-spec : {M : Type 1} → statement M
 read-body-spec =

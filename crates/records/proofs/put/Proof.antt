@@ -1,5 +1,5 @@
--- `records::put` meets its contract: a walk of its MIR, by hand. The borrow is opened, the record at the place is taken out of the row and stored to, and the borrow is closed at the row with the new record in it.
--- Assumes nothing.
+-- `records::put` meets its contract: a walk of its MIR, by hand. The borrow is opened, the record at the place is
+-- taken out of the row and stored to, and the borrow is closed at the row with the new record in it. Assumes nothing.
 use mathlib.Core.Path.{_≡_, refl, sym, ap, subst}
 use Prim.Native.Nat.{ℕ, _<_, _^_}
 use mathlib.Core.List.{List, [], _∷_}
@@ -51,7 +51,9 @@ use Rattle.records.proofs.put.Code as code
 abbrev stayed : Stays (put.ended .signature .params) (put.ended .kept)
 stayed = (stay-slice (0 ∷ []) tt (plain (λ _. Row)), (stay-none (λ _. usize) yes, (stay-none (λ _. Row) yes, tt)))
 
-module _ {M : Type 1} (𝓤 : URA M) (H : Heap 𝓤) (A : Atoms 𝓤) (W : Given 𝓤 H A) (mem : Memory → SProp 𝓤) (run : Routine → Fun 𝓤) (κ : Lft) (q : Share) (b o : ℕ) (γ : GName) (ys : List Record) (room : Room Row (length ys)) (i : ℕ) (i-fits : i < 2 ^ 64) (r : Record) (r-is : Is Row r (lowered r ∷ [])) where
+module _ {M : Type 1} (𝓤 : URA M) (H : Heap 𝓤) (A : Atoms 𝓤) (W : Given 𝓤 H A) (mem : Memory → SProp 𝓤)
+    (run : Routine → Fun 𝓤) (κ : Lft) (q : Share) (b o : ℕ) (γ : GName) (ys : List Record) (room : Room Row (length ys))
+    (i : ℕ) (i-fits : i < 2 ^ 64) (r : Record) (r-is : Is Row r (lowered r ∷ [])) where
   abbrev Arg : Type 0
   Arg = RefT (List Record) × (ℕ × (Record × Unit {0}))
 
@@ -76,47 +78,91 @@ module _ {M : Type 1} (𝓤 : URA M) (H : Heap 𝓤) (A : Atoms 𝓤) (W : Given
   abbrev Post : Val → SProp 𝓤
   Post = walkOf 𝓤 H A put.ended stayed (put.clauses 𝓤 H A mem run) .post (((κ, tt), (q, tt), tt, x, vals), tt)
 
-  exits : ent 𝓤 (⋆ 𝓤 H A (‵ (fobs γ (codedHoleys Row .code (heres Row zs))) ∷ ‵ (fbor κ (Held Row (length zs) b o γ)) ∷ ‵ (flft κ q) ∷ [])) (Post vunit)
+  exits : ent 𝓤
+      (⋆ 𝓤 H A
+      (‵ (fobs γ (codedHoleys Row .code (heres Row zs))) ∷ ‵ (fbor κ (Held Row (length zs) b o γ)) ∷ ‵ (flft κ q) ∷
+      [])) (Post vunit)
   exits =
-      qed W (‵ (fobs γ (codedHoleys Row .code (heres Row zs))) ∷ ‵ (fbor κ (Held Row (length zs) b o γ)) ∷ ‵ (flft κ q) ∷ []) ∵
-      suffices ! _ (ends-at 𝓤 H A put.ended stayed (put.clauses 𝓤 H A mem run) W (((κ, tt), (q, tt), tt, x, vals), tt) vunit tt (zs, (tt, (tt, tt))) (length-set ys i r, (tt, (tt, tt)))) $ says ! is-put $
+      qed W
+      (‵ (fobs γ (codedHoleys Row .code (heres Row zs))) ∷ ‵ (fbor κ (Held Row (length zs) b o γ)) ∷ ‵ (flft κ q) ∷
+      []) ∵
+      suffices ! _
+      (ends-at 𝓤 H A put.ended stayed (put.clauses 𝓤 H A mem run) W (((κ, tt), (q, tt), tt, x, vals), tt) vunit tt
+      (zs, (tt, (tt, tt))) (length-set ys i r, (tt, (tt, tt)))) $ says ! is-put $
       nothing ! $ move ! (3 ∷ 0 ∷ []) $ join ! $ frame ! $
       -- [obs; the borrow]: with the fact on the machine value it is what the slice owns
-      fjoin ! $ pureI ! (at-slice Row (s zs) (vals .0)) (tt, (tt, tt)) (ap (λ (m : ℕ). sliceVal (b, o) m ∷ []) (sym (length-set ys i r)), subst (Room Row) (sym (length-set ys i r)) room) $ fjoin ! $
-      nothing ! $ owned ! Row (Is Row) (row-makes 𝓤 H A) r _ r-is $ fjoin ! $ owned ! usize (Is usize) (uint-makes 𝓤 H A W w64) i _ (refl, i-fits) $ fjoin ! $ move ! (1 ∷ 0 ∷ []) $ fjoin ! $ frame ! $
+      fjoin ! $ pureI ! (at-slice Row (s zs) (vals .0)) (tt, (tt, tt)) (
+        ap (λ (m : ℕ). sliceVal (b, o) m ∷ []) (sym (length-set ys i r)),
+        subst (Room Row) (sym (length-set ys i r)) room,
+      ) $ fjoin ! $
+      nothing ! $ owned ! Row (Is Row) (row-makes 𝓤 H A) r _ r-is $ fjoin ! $ owned ! usize (Is usize)
+      (uint-makes 𝓤 H A W w64) i _ (refl, i-fits) $ fjoin ! $ move ! (1 ∷ 0 ∷ []) $ fjoin ! $ frame ! $
       feqI ! (List Val) (vunit ∷ []) (vunit ∷ []) refl $ done !
 
   module _ (C : Calls 𝓤 H) (Λ : Loops 𝓤 H) where
-    walk : i < length ys → ent 𝓤 (onEntry 𝓤 H A put.signature (κ, tt) (q, tt) x vals) (WpFn 𝓤 H C Λ code.function (sliceVal (b, o) (length ys) ∷ vint w64 i ∷ lowered r ∷ []) Post)
+    walk : i < length ys
+        → ent 𝓤 (onEntry 𝓤 H A put.signature (κ, tt) (q, tt) x vals)
+        (WpFn 𝓤 H C Λ code.function (sliceVal (b, o) (length ys) ∷ vint w64 i ∷ lowered r ∷ []) Post)
     walk within =
-        qed W ((‵ (flft κ q) ⊛ ‵ ftrue) ∷ ‵ (owns (MutSlice (named 0) κ Row ∷ usize ∷ Row ∷ []) x vals) ∷ []) ∵ enter ! C Λ code.function (sliceVal (b, o) (length ys) ∷ vint w64 i ∷ lowered r ∷ []) _ $
-        alloc1 ! (λ l₀. alloc1 ! (λ l₁. alloc1 ! (λ l₂. alloc1 ! (λ l₃. alloc1 ! (λ l₄. alloc1 ! (λ l₅. alloc0 ! $ params1 ! $
-        pass1 ! (init ! 8 refl (tt, (tt, (record { fits = room .0 }, tt)))) $ pass1 ! (init ! 6 refl (tt, record { fits = i-fits })) $ pass1 ! (init ! 4 refl (row-typed 𝓤 H A W r _ r-is)) $ pass0 ! $
+        qed W ((‵ (flft κ q) ⊛ ‵ ftrue) ∷ ‵ (owns (MutSlice (named 0) κ Row ∷ usize ∷ Row ∷ []) x vals) ∷ []) ∵ enter
+        ! C Λ code.function (sliceVal (b, o) (length ys) ∷ vint w64 i ∷ lowered r ∷ []) _ $
+        alloc1 ! (λ l₀. alloc1 ! (λ l₁. alloc1 ! (λ l₂. alloc1 !
+        (λ l₃. alloc1 ! (λ l₄. alloc1 ! (λ l₅. alloc0 ! $ params1 ! $
+        pass1 ! (init ! 8 refl (tt, (tt, (record { fits = room .0 }, tt)))) $ pass1 !
+        (init ! 6 refl (tt, record { fits = i-fits })) $ pass1 ! (init ! 4 refl (row-typed 𝓤 H A W r _ r-is)) $
+        pass0 ! $
         -- [_5; …; _4; …; _3; …; _2; …; _1; …; room for _0; …; the token; what row, place and r own]
-        assigns ! (bin ! (load ! (from ! (stop !)) (look ! 6 refl)) (lit ! tt) (record { fits = far (length ys) i room within })) (from ! (stop !)) (init ! 2 refl (tt, record { fits = far (length ys) i room within })) $
-        assigns ! (bin ! (load ! (from ! (fld ! refl (stop !))) (look-in ! 8 (sub ! 0 refl (whole !)))) (load ! (from ! (stop !)) (look ! 2 refl)) tt) (from ! (stop !)) (init ! 0 refl (tt, tt)) $
+        assigns !
+        (bin ! (load ! (from ! (stop !)) (look ! 6 refl)) (lit ! tt)
+        (record { fits = far (length ys) i room within })) (from ! (stop !))
+        (init ! 2 refl (tt, record { fits = far (length ys) i room within })) $
+        assigns !
+        (bin ! (load ! (from ! (fld ! refl (stop !))) (look-in ! 8 (sub ! 0 refl (whole !))))
+        (load ! (from ! (stop !)) (look ! 2 refl)) tt) (from ! (stop !)) (init ! 0 refl (tt, tt)) $
         rewrite ! 0 (λ (p : ℕ). ‵ (fat fullShare tyPtr l₅ 0 (vptr b p))) (sym (place-is 7 o i)) refl $
-        move ! (13 ∷ []) $ fsplit ! $ fsplit ! $ move ! (1 ∷ []) $ fsplit ! $ move ! (16 ∷ []) $ split ! $ move ! (2 ∷ 3 ∷ 0 ∷ []) $
-        opens-slice ! tt Row ys b o $ elem-out ! Row (Is Row) (shows 𝓤 H A Row) row-vals row-tells fullShare ys i blank b o within (λ _.
-        -- [row[place]; what it owns; the others; the open borrow; obs; auth; true; row's fact; place's and r's; _5; …; _4; …; _3; …; _2; …; _1; …; room for _0; …]
-        assigns ! (of-opd ! (load ! (from ! (stop !)) (look ! 13 refl))) (from ! (hop ! (look ! 9 refl) (stop !))) (store-raw ! 0 refl (row-typed 𝓤 H A W r _ r-is)) $
-        move ! (1 ∷ []) $ drop ! $ owned ! Row (Is Row) (row-makes 𝓤 H A) r _ r-is $ move ! (1 ∷ 0 ∷ []) $ elem-put ! Row fullShare ys i r (lowered r ∷ []) b o within $
+        move ! (13 ∷ []) $ fsplit ! $ fsplit ! $ move ! (1 ∷ []) $ fsplit ! $ move ! (16 ∷ []) $ split ! $ move !
+        (2 ∷ 3 ∷ 0 ∷ []) $
+        opens-slice ! tt Row ys b o $ elem-out ! Row (Is Row) (shows 𝓤 H A Row) row-vals row-tells fullShare ys i
+        blank b o within (λ _.
+        -- [row[place]; what it owns; the others; the open borrow; obs; auth; true; row's fact; place's and r's; _5;
+        -- …; _4; …; _3; …; _2; …; _1; …; room for _0; …]
+        assigns ! (of-opd ! (load ! (from ! (stop !)) (look ! 13 refl))) (from ! (hop ! (look ! 9 refl) (stop !)))
+        (store-raw ! 0 refl (row-typed 𝓤 H A W r _ r-is)) $
+        move ! (1 ∷ []) $ drop ! $ owned ! Row (Is Row) (row-makes 𝓤 H A) r _ r-is $ move ! (1 ∷ 0 ∷ []) $ elem-put !
+        Row fullShare ys i r (lowered r ∷ []) b o within $
         closes-slice ! tt Row ys zs (length-set ys i r) b o $
         assigns ! (of-opd ! (unit-lit !)) (from ! (stop !)) (init ! 16 refl (tt, tt)) $
-        returns ! (look ! 16 refl) $ forget ! 6 refl $ forget ! 8 refl $ forget ! 10 refl $ forget ! 12 refl $ forget ! 14 refl $ forget ! 16 refl $
-        move ! (16 ∷ 17 ∷ []) $ free1 ! $ move ! (14 ∷ 15 ∷ []) $ free1 ! $ move ! (12 ∷ 13 ∷ []) $ free1 ! $ move ! (10 ∷ 11 ∷ []) $ free1 ! $ move ! (8 ∷ 9 ∷ []) $ free1 ! $ move ! (6 ∷ 7 ∷ []) $ free1 ! $ free0 ! $
+        returns ! (look ! 16 refl) $ forget ! 6 refl $ forget ! 8 refl $ forget ! 10 refl $ forget ! 12 refl $ forget
+        ! 14 refl $ forget ! 16 refl $
+        move ! (16 ∷ 17 ∷ []) $ free1 ! $ move ! (14 ∷ 15 ∷ []) $ free1 ! $ move ! (12 ∷ 13 ∷ []) $ free1 ! $ move !
+        (10 ∷ 11 ∷ []) $ free1 ! $ move ! (8 ∷ 9 ∷ []) $ free1 ! $ move ! (6 ∷ 7 ∷ []) $ free1 ! $ free0 ! $
         keep ! (0 ∷ 1 ∷ 2 ∷ []) $ by ! exits)))))))
 
-module _ {M : Type 1} (𝓤 : URA M) (H : Heap 𝓤) (A : Atoms 𝓤) (W : Given 𝓤 H A) (mem : Memory → SProp 𝓤) (run : Routine → Fun 𝓤) where
-  put-walks : (C : Calls 𝓤 H) (Λ : Loops 𝓤 H) → Walks 𝓤 H A put.ended stayed (WpFn 𝓤 H C Λ code.function) (put.clauses 𝓤 H A mem run)
-  put-walks C Λ = walked 𝓤 H A put.ended stayed (put.clauses 𝓤 H A mem run) (WpFn 𝓤 H C Λ code.function) (λ κs. (slice-vals, (uint-vals w64, (row-vals, tt)))) (λ κs. (mut-slice-tells (named 0) (κs .0) Row, (uint-tells w64, (row-tells, tt))))
+module _ {M : Type 1} (𝓤 : URA M) (H : Heap 𝓤) (A : Atoms 𝓤) (W : Given 𝓤 H A) (mem : Memory → SProp 𝓤)
+    (run : Routine → Fun 𝓤) where
+  put-walks : (C : Calls 𝓤 H) (Λ : Loops 𝓤 H)
+      → Walks 𝓤 H A put.ended stayed (WpFn 𝓤 H C Λ code.function) (put.clauses 𝓤 H A mem run)
+  put-walks C Λ =
+      walked 𝓤 H A put.ended stayed (put.clauses 𝓤 H A mem run) (WpFn 𝓤 H C Λ code.function)
+      (λ κs. (slice-vals, (uint-vals w64, (row-vals, tt))))
+      (λ κs. (mut-slice-tells (named 0) (κs .0) Row, (uint-tells w64, (row-tells, tt))))
       (λ κs qs bounds a g are. needs 𝓤 (a .1 .0 < length (now (a .0))) _
-      (walk 𝓤 H A W mem run (κs .0) (qs .0) (a .0 .ptr .0) (a .0 .ptr .1) (a .0 .name) (a .0 .now) (are .0 .0 .1) (a .1 .0) (are .1 .0 .1) (a .1 .1 .0) (are .1 .1 .0) C Λ))
+      (walk 𝓤 H A W mem run (κs .0) (qs .0) (a .0 .ptr .0) (a .0 .ptr .1) (a .0 .name) (a .0 .now) (are .0 .0 .1)
+      (a .1 .0) (are .1 .0 .1) (a .1 .1 .0) (are .1 .1 .0) C Λ))
 
-put-meets : {M : Type 1} (𝓤 : URA M) (H : Heap 𝓤) (A : Atoms 𝓤) → Given 𝓤 H A → (mem : Memory → SProp 𝓤) (run : Routine → Fun 𝓤) (𝓣 : Tables 𝓤 H)
+put-meets : {M : Type 1} (𝓤 : URA M) (H : Heap 𝓤) (A : Atoms 𝓤) → Given 𝓤 H A
+    → (mem : Memory → SProp 𝓤) (run : Routine → Fun 𝓤) (𝓣 : Tables 𝓤 H)
     → Meets 𝓤 H A put.signature (WpFn 𝓤 H (𝓣 .C) (𝓣 .Λ) code.function) (put.spec 𝓤 H A mem run)
-put-meets 𝓤 H A W mem run 𝓣 = walk-meets 𝓤 H A put.ended stayed W (goes-slice 𝓤 H A W 1 0 tt (plain (λ _. Row)), (goes-none 𝓤 H A W 1 (λ _. usize) yes (λ κs x f. refl), (goes-none 𝓤 H A W 1 (λ _. Row) yes (λ κs x f. refl), tt)))
-    (put.clauses 𝓤 H A mem run) (WpFn 𝓤 H (𝓣 .C) (𝓣 .Λ) code.function) (WpFn-mono 𝓤 H (W .laws) 𝓣 code.function) (put-walks 𝓤 H A W mem run (𝓣 .C) (𝓣 .Λ))
+put-meets 𝓤 H A W mem run 𝓣 =
+    walk-meets 𝓤 H A put.ended stayed W (
+      goes-slice 𝓤 H A W 1 0 tt (plain (λ _. Row)),
+      (
+        goes-none 𝓤 H A W 1 (λ _. usize) yes (λ κs x f. refl),
+        (goes-none 𝓤 H A W 1 (λ _. Row) yes (λ κs x f. refl), tt),
+      ),
+    )
+    (put.clauses 𝓤 H A mem run) (WpFn 𝓤 H (𝓣 .C) (𝓣 .Λ) code.function) (WpFn-mono 𝓤 H (W .laws) 𝓣 code.function)
+    (put-walks 𝓤 H A W mem run (𝓣 .C) (𝓣 .Λ))
 
 pub put-spec : {M : Type 1} → stated.statement M
 unfolding code.routine tablesOf

@@ -11,7 +11,8 @@ use Rattle.records.proofs.refusal.Statement.{statement}
 use Rattle.records.proofs.refusal.Tie as tie
 
 -- the data area that the test is asked of is the queue's
-fitted : (q : Queue) (n : ℕ) {w : ℕ} {r : Bool} → w ≡ q .places → r ≡ misfit q 1 n (AREA * w) → r ≡ misfit q 1 n (AREA * q .places)
+fitted : (q : Queue) (n : ℕ) {w : ℕ} {r : Bool} → w ≡ q .places → r ≡ misfit q 1 n (AREA * w)
+    → r ≡ misfit q 1 n (AREA * q .places)
 fitted q n e m = m ∙ ap (λ (k : ℕ). misfit q 1 n (AREA * k)) e
 
 returns : tie.Need-returns
@@ -26,7 +27,8 @@ unfolding refusal
 returns-2 c =
     let s = c .before .before .before .before .before .args in
     let w = c .before .before .before .before .wide .ensures .0 in
-    asked-false _ (fitted (s .q) (s .places) w (c .before .before .before .misfit .ensures)) (c .before .before .if1 .left)
+    asked-false _ (fitted (s .q) (s .places) w (c .before .before .before .misfit .ensures))
+    (c .before .before .if1 .left)
     (asked-true _ (c .before .overfull .ensures) (c .if2 .taken) refl)
 
 returns-3 : tie.Need-returns-3
@@ -34,7 +36,8 @@ unfolding refusal
 returns-3 c =
     let s = c .before .before .before .before .before .args in
     let w = c .before .before .before .before .wide .ensures .0 in
-    asked-false _ (fitted (s .q) (s .places) w (c .before .before .before .misfit .ensures)) (c .before .before .if1 .left)
+    asked-false _ (fitted (s .q) (s .places) w (c .before .before .before .misfit .ensures))
+    (c .before .before .if1 .left)
     (asked-false _ (c .before .overfull .ensures) (c .if2 .left) refl)
 
 pub refusal-spec : {M : Type 1} → statement M

@@ -35,14 +35,16 @@ returns c =
     let after-enum-told : tie.After-enum-told = search depth 0 in
     let after-current : tie.After-current = search depth 0 in
     let after-queue-of : tie.After-queue-of = search depth 0 in
-    flight-high _ _ _ (after-queue-of .queue-of .ensures) (after-current .current .ensures .0) (after-enum-told .enum-told .given .1) (c .at .ensures)
+    flight-high _ _ _ (after-queue-of .queue-of .ensures) (after-current .current .ensures .0)
+    (after-enum-told .enum-told .given .1) (c .at .ensures)
 
 returns-2 : tie.Need-returns-2
 returns-2 c =
     let after-enum-told2 : tie.After-enum-told2 = search depth 0 in
     let after-current : tie.After-current = search depth 0 in
     let after-queue-of : tie.After-queue-of = search depth 0 in
-    flight-low _ _ _ (after-queue-of .queue-of .ensures) (after-current .current .ensures .0) (after-enum-told2 .enum-told2 .given .1) (c .at2 .ensures)
+    flight-low _ _ _ (after-queue-of .queue-of .ensures) (after-current .current .ensures .0)
+    (after-enum-told2 .enum-told2 .given .1) (c .at2 .ensures)
 
 pub in-flight-spec : {M : Type 1} → statement M
 in-flight-spec =

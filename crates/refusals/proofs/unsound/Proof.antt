@@ -1,4 +1,5 @@
--- `refusals::unsound` meets its contract: the record in flight is asked first, which makes no difference. Assumes nothing.
+-- `refusals::unsound` meets its contract: the record in flight is asked first, which makes no difference. Assumes
+-- nothing.
 use mathlib.Core.Path.{sym, _∙_}
 use Rattle.state.specs.Refusals.{soundIn, unsound}
 use Rattle.choice.proofs.Rules.{picks, asked, denied-false}
@@ -30,7 +31,9 @@ returns-4 c =
     let else1 : tie.Else1 = search depth 0 in
     let after-unlike : tie.After-unlike = search depth 0 in
     let after-in-flight : tie.After-in-flight = search depth 0 in
-    denied-false _ (after-sound .sound .ensures) (else2 .if2 .left) (denied-false _ (after-sound2 .sound2 .ensures) (c .if3 .left) (cc (else1 .if1 .left, after-unlike .unlike .ensures, after-in-flight .in-flight .ensures)))
+    denied-false _ (after-sound .sound .ensures) (else2 .if2 .left)
+    (denied-false _ (after-sound2 .sound2 .ensures) (c .if3 .left)
+    (cc (else1 .if1 .left, after-unlike .unlike .ensures, after-in-flight .in-flight .ensures)))
 
 pub unsound-spec : {M : Type 1} → statement M
 unsound-spec =

@@ -8,25 +8,61 @@ use native.Mathlib.Omega.{arith}
 use lib.Seq.{length-take-le}
 
 slice-aggregate-answer : tie.Need-slice-aggregate-answer
-slice-aggregate-answer c = sym (length-take-le (c .before .before .before .before .before .before .before .before .args .count) (c .before .before .before .before .before .before .before .before .args .line .now) (omega (arith, c .before .before .before .before .before .before .before .before .pre .kept, c .before .before .before .before .before .before .before .before .pre .line)))
+slice-aggregate-answer c =
+    let else1 : tie.Else1 = search depth 0 in
+    let start : tie.Start = search depth 0 in
+    sym
+    (length-take-le (start .args .count) (start .args .line .now)
+    (omega (arith, start .pre .kept, start .pre .line)))
 
 answer-requires : tie.Need-answer-requires
-answer-requires c κs = (c .before .before .before .before .before .before .before .before .before .before .before .before .before .pre .arrays, c .before .before .before .before .before .before .before .before .before .before .before .before .before .pre .few)
+answer-requires c κs =
+    let else1 : tie.Else1 = search depth 0 in
+    let start : tie.Start = search depth 0 in
+    (start .pre .arrays, start .pre .few)
 
 slice-reshare-prefix-write-all : tie.Need-slice-reshare-prefix-write-all
-slice-reshare-prefix-write-all c = omega (arith, c .before .before .before .before .before .before .before .before .before .before .before .answer .ensures .laid .place, c .before .before .before .before .before .before .before .before .before .before .before .answer .ensures .laid .near, c .before .before .before .before .before .before .before .before .before .before .before .answer .kept .1 .1 .1 .1 .1 .1 .0, c .before .before .before .before .before .before .before .before .before .before .before .before .before .before .before .before .before .before .before .before .before .before .before .before .before .pre .arrays .text)
+slice-reshare-prefix-write-all c =
+    let after-low : tie.After-low = search depth 0 in
+    let after-answer : tie.After-answer = search depth 0 in
+    let else1 : tie.Else1 = search depth 0 in
+    let start : tie.Start = search depth 0 in
+    omega (
+      arith,
+      after-answer .answer .ensures .laid .place,
+      after-answer .answer .ensures .laid .near,
+      after-answer .answer .kept .1 .1 .1 .1 .1 .1 .0,
+      start .pre .arrays .text,
+    )
 
 slice-aggregate-write-all : tie.Need-slice-aggregate-write-all
-slice-aggregate-write-all c = sym (length-take-le (c .before .before .before .before .before .before .before .before .before .before .before .before .answer .result .length) (c .before .before .before .before .before .before .before .before .before .before .before .before .answer .last .1 .1 .1 .1 .1 .1 .0) (omega (arith, c .before .before .before .before .before .before .before .before .before .before .before .before .answer .ensures .laid .place, c .before .before .before .before .before .before .before .before .before .before .before .before .answer .ensures .laid .near, c .before .before .before .before .before .before .before .before .before .before .before .before .answer .kept .1 .1 .1 .1 .1 .1 .0, c .before .before .before .before .before .before .before .before .before .before .before .before .before .before .before .before .before .before .before .before .before .before .before .before .before .before .pre .arrays .text)))
+slice-aggregate-write-all c =
+    let after-low : tie.After-low = search depth 0 in
+    let after-answer : tie.After-answer = search depth 0 in
+    let else1 : tie.Else1 = search depth 0 in
+    let start : tie.Start = search depth 0 in
+    sym
+    (length-take-le (after-answer .answer .result .length) (after-answer .answer .last .1 .1 .1 .1 .1 .1 .0)
+    (omega (
+      arith,
+      after-answer .answer .ensures .laid .place,
+      after-answer .answer .ensures .laid .near,
+      after-answer .answer .kept .1 .1 .1 .1 .1 .1 .0,
+      start .pre .arrays .text,
+    )))
 
 returns-2 : tie.Need-returns-2
 returns-2 c =
-    let k = c .before .before .before .before .before .before .before .before .before .before .before .before .before .answer .kept .1 .1 in
-    let a = c .before .before .before .before .before .before .before .before .before .before .before .before .before .before .before .before .before .before .before .before .before .before .before .before .before .before .before .pre .arrays in
+    let after-larea : tie.After-larea = search depth 0 in
+    let after-answer : tie.After-answer = search depth 0 in
+    let else1 : tie.Else1 = search depth 0 in
+    let start : tie.Start = search depth 0 in
+    let k = after-answer .answer .kept .1 .1 in
+    let a = start .pre .arrays in
     record {
-      few = c .before .before .before .before .before .before .before .before .before .before .before .before .before .answer .ensures .few;
+      few = after-answer .answer .ensures .few;
       kept = omega arith;
-      line = c .before .before .before .before .before .before .before .before .before .before .before .before .before .before .before .before .before .before .before .before .before .before .before .before .before .before .before .pre .line;
+      line = start .pre .line;
       arrays =
           record {
             high = k .0 ∙ a .high;

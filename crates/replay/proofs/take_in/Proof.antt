@@ -11,53 +11,109 @@ use Rattle.typed_lines.proofs.Kept.{gathered-on, gathered-few}
 use Rattle.replay.specs.Replay.{Ready}
 
 abbrev Inv-loop : tie.InvT-loop
-Inv-loop block count line₀ high₀ harea₀ low₀ larea₀ text₀ held₀ kept₀ at₀ line high harea low larea text held kept at = Ready held kept line high harea low larea text
+Inv-loop block count line₀ high₀ harea₀ low₀ larea₀ text₀ held₀ kept₀ at₀ line high harea low larea text held kept at =
+    Ready held kept line high harea low larea text
 
 abbrev μ-loop : tie.MeasureT-loop
-μ-loop block count line₀ high₀ harea₀ low₀ larea₀ text₀ held₀ kept₀ at₀ line high harea low larea text held kept at = length block - at
+μ-loop block count line₀ high₀ harea₀ low₀ larea₀ text₀ held₀ kept₀ at₀ line high harea low larea text held kept at =
+    length block - at
 
 loop-holds : tie.Need-loop-holds Inv-loop μ-loop
-loop-holds c = c .before .before .before .before .before .before .before .pre
+loop-holds c =
+    let start : tie.Start Inv-loop μ-loop = search depth 0 in
+    start .pre
 
 gather-requires : tie.Need-gather-requires Inv-loop μ-loop
-gather-requires c κs = (c .before .before .loop .inv .line, c .before .before .loop .inv .kept)
+gather-requires c κs =
+    let at-loop : tie.At-loop Inv-loop μ-loop = search depth 0 in
+    (at-loop .loop .inv .line, at-loop .loop .inv .kept)
 
 heed-requires : tie.Need-heed-requires Inv-loop μ-loop
 heed-requires c κs =
-    let i = c .before .before .before .before .before .before .before .before .before .before .before .loop .inv in
+    let after-line : tie.After-line Inv-loop μ-loop = search depth 0 in
+    let after-gather : tie.After-gather Inv-loop μ-loop = search depth 0 in
+    let at-loop : tie.At-loop Inv-loop μ-loop = search depth 0 in
+    let after-shared-slice-known : tie.After-shared-slice-known Inv-loop μ-loop = search depth 0 in
+    let start : tie.Start Inv-loop μ-loop = search depth 0 in
+    let i = at-loop .loop .inv in
     record {
       few = i .few;
-      kept = omega (arith, ap (λ (x : Gathered). x .count) (c .before .before .before .before .before .before .before .before .gather .ensures .0), gathered-few (take (c .before .before .before .before .before .before .before .before .before .before .before .loop .kept) (c .before .before .before .before .before .before .before .before .before .before .before .loop .line)) (c .before .before .before .before .before .before .before .before .before .before .before .before .before .before .before .before .before .before .before .args .block .now) (c .before .before .before .before .before .before .before .before .before .before .before .loop .at));
-      line = c .before .before .before .before .before .before .before .before .gather .kept .1 .1 .0 ∙ i .line;
+      kept =
+          omega
+          (arith, ap (λ (x : Gathered). x .count) (after-gather .gather .ensures .0), gathered-few (take (at-loop .loop .kept) (at-loop .loop .line)) (start .args .block .now) (at-loop .loop .at));
+      line = after-gather .gather .kept .1 .1 .0 ∙ i .line;
       arrays = i .arrays;
     }
 
 loop-less : tie.Need-loop-less Inv-loop μ-loop
-loop-less c = omega (arith, ap (λ (x : Gathered). x .next) (c .before .before .before .before .before .before .before .before .before .before .before .before .before .before .before .before .before .before .before .before .before .before .gather .ensures .0), gathered-on (take (c .before .before .before .before .before .before .before .before .before .before .before .before .before .before .before .before .before .before .before .before .before .before .before .before .before .loop .kept) (c .before .before .before .before .before .before .before .before .before .before .before .before .before .before .before .before .before .before .before .before .before .before .before .before .before .loop .line)) (c .before .before .before .before .before .before .before .before .before .before .before .before .before .before .before .before .before .before .before .before .before .before .before .before .before .before .before .before .before .before .before .before .before .args .block .now) (c .before .before .before .before .before .before .before .before .before .before .before .before .before .before .before .before .before .before .before .before .before .before .before .before .before .loop .at) (c .before .before .before .before .before .before .before .before .before .before .before .before .before .before .before .before .before .before .before .before .before .before .before .before .loop-test .taken), c .before .before .before .before .before .before .before .before .before .before .before .before .before .before .before .before .before .before .before .before .before .before .before .before .loop-test .taken)
+loop-less c =
+    let after-low : tie.After-low Inv-loop μ-loop = search depth 0 in
+    let after-heed : tie.After-heed Inv-loop μ-loop = search depth 0 in
+    let after-slice-known7 : tie.After-slice-known7 Inv-loop μ-loop = search depth 0 in
+    let after-gather : tie.After-gather Inv-loop μ-loop = search depth 0 in
+    let in-loop : tie.In-loop Inv-loop μ-loop = search depth 0 in
+    let at-loop : tie.At-loop Inv-loop μ-loop = search depth 0 in
+    let start = at-loop .before .before .before .before .before .before .before .before in
+    omega (
+      arith,
+      ap (λ (x : Gathered). x .next) (after-gather .gather .ensures .0),
+      gathered-on (take (at-loop .loop .kept) (at-loop .loop .line)) (start .args .block .now) (at-loop .loop .at)
+          (in-loop .loop-test .taken),
+      in-loop .loop-test .taken,
+    )
 
 loop-again : tie.Need-loop-again Inv-loop μ-loop
-loop-again c = c .before .before .before .before .before .before .before .before .before .before .before .before .before .heed .ensures
+loop-again c =
+    let after-low : tie.After-low Inv-loop μ-loop = search depth 0 in
+    let after-heed : tie.After-heed Inv-loop μ-loop = search depth 0 in
+    after-heed .heed .ensures
 
 same-length : tie.Need-same-length Inv-loop μ-loop
-same-length c = c .before .loop .inv .line ∙ sym (c .before .before .before .before .before .before .before .before .before .pre .line)
+same-length c =
+    let at-loop : tie.At-loop Inv-loop μ-loop = search depth 0 in
+    let after-shared-slice-known : tie.After-shared-slice-known Inv-loop μ-loop = search depth 0 in
+    let start : tie.Start Inv-loop μ-loop = search depth 0 in
+    at-loop .loop .inv .line ∙ sym (start .pre .line)
 
 same-length-2 : tie.Need-same-length-2 Inv-loop μ-loop
-same-length-2 c = c .before .loop .inv .arrays .high ∙ sym (c .before .before .before .before .before .before .before .before .before .pre .arrays .high)
+same-length-2 c =
+    let at-loop : tie.At-loop Inv-loop μ-loop = search depth 0 in
+    let after-shared-slice-known : tie.After-shared-slice-known Inv-loop μ-loop = search depth 0 in
+    let start : tie.Start Inv-loop μ-loop = search depth 0 in
+    at-loop .loop .inv .arrays .high ∙ sym (start .pre .arrays .high)
 
 same-length-3 : tie.Need-same-length-3 Inv-loop μ-loop
-same-length-3 c = c .before .loop .inv .arrays .harea ∙ sym (c .before .before .before .before .before .before .before .before .before .pre .arrays .harea)
+same-length-3 c =
+    let at-loop : tie.At-loop Inv-loop μ-loop = search depth 0 in
+    let after-shared-slice-known : tie.After-shared-slice-known Inv-loop μ-loop = search depth 0 in
+    let start : tie.Start Inv-loop μ-loop = search depth 0 in
+    at-loop .loop .inv .arrays .harea ∙ sym (start .pre .arrays .harea)
 
 same-length-4 : tie.Need-same-length-4 Inv-loop μ-loop
-same-length-4 c = c .before .loop .inv .arrays .low ∙ sym (c .before .before .before .before .before .before .before .before .before .pre .arrays .low)
+same-length-4 c =
+    let at-loop : tie.At-loop Inv-loop μ-loop = search depth 0 in
+    let after-shared-slice-known : tie.After-shared-slice-known Inv-loop μ-loop = search depth 0 in
+    let start : tie.Start Inv-loop μ-loop = search depth 0 in
+    at-loop .loop .inv .arrays .low ∙ sym (start .pre .arrays .low)
 
 same-length-5 : tie.Need-same-length-5 Inv-loop μ-loop
-same-length-5 c = c .before .loop .inv .arrays .larea ∙ sym (c .before .before .before .before .before .before .before .before .before .pre .arrays .larea)
+same-length-5 c =
+    let at-loop : tie.At-loop Inv-loop μ-loop = search depth 0 in
+    let after-shared-slice-known : tie.After-shared-slice-known Inv-loop μ-loop = search depth 0 in
+    let start : tie.Start Inv-loop μ-loop = search depth 0 in
+    at-loop .loop .inv .arrays .larea ∙ sym (start .pre .arrays .larea)
 
 same-length-6 : tie.Need-same-length-6 Inv-loop μ-loop
-same-length-6 c = c .before .loop .inv .arrays .text ∙ sym (c .before .before .before .before .before .before .before .before .before .pre .arrays .text)
+same-length-6 c =
+    let at-loop : tie.At-loop Inv-loop μ-loop = search depth 0 in
+    let after-shared-slice-known : tie.After-shared-slice-known Inv-loop μ-loop = search depth 0 in
+    let start : tie.Start Inv-loop μ-loop = search depth 0 in
+    at-loop .loop .inv .arrays .text ∙ sym (start .pre .arrays .text)
 
 returns : tie.Need-returns Inv-loop μ-loop
-returns c = c .before .loop .inv
+returns c =
+    let at-loop : tie.At-loop Inv-loop μ-loop = search depth 0 in
+    at-loop .loop .inv
 
 pub take-in-spec : {M : Type 1} → statement M
 take-in-spec =

@@ -12,14 +12,18 @@ unfolding overlong
 returns c =
     let after-extensions2 : tie.After-extensions2 = search depth 0 in
     let after-extensions : tie.After-extensions = search depth 0 in
-    if-less _ (omega (arith, c .if1 .taken, after-extensions .extensions .ensures, after-extensions2 .extensions2 .ensures)) refl
+    if-less _
+    (omega (arith, c .if1 .taken, after-extensions .extensions .ensures, after-extensions2 .extensions2 .ensures))
+    refl
 
 returns-2 : tie.Need-returns-2
 unfolding overlong
 returns-2 c =
     let after-extensions2 : tie.After-extensions2 = search depth 0 in
     let after-extensions : tie.After-extensions = search depth 0 in
-    unless-less _ (omega (arith, c .if1 .left, after-extensions .extensions .ensures, after-extensions2 .extensions2 .ensures)) refl
+    unless-less _
+    (omega (arith, c .if1 .left, after-extensions .extensions .ensures, after-extensions2 .extensions2 .ensures))
+    refl
 
 pub overlong-spec : {M : Type 1} → statement M
 overlong-spec =

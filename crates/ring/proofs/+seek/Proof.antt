@@ -30,7 +30,8 @@ seek-returns : (t : ℕ) → seek-lts.Need-returns (
   seek.Post,
 ) (seek-at t) seek.Post
 seek-returns t c =
-    let start : seek-lts.Start (on-reads.Asked, on-reads.Learnt, seek-below t, seek.Post) (seek-at t) seek.Post = search depth 0 in
+    let start : seek-lts.Start (on-reads.Asked, on-reads.Learnt, seek-below t, seek.Post) (seek-at t) seek.Post = search
+    depth 0 in
     let a = start .args in
     (rw (c .if1 .taken) (sym (seek-none (a .masters .now) (a .step) (a .a))), omega arith)
 
@@ -58,8 +59,10 @@ seek-returns-2 : (t : ℕ) → seek-lts.Need-returns-2 (
 ) (seek-at t) seek.Post
 unfolding member
 seek-returns-2 t c =
-    let after-on : seek-lts.After-on (on-reads.Asked, on-reads.Learnt, seek-below t, seek.Post) (seek-at t) seek.Post = search depth 0 in
-    let start : seek-lts.Start (on-reads.Asked, on-reads.Learnt, seek-below t, seek.Post) (seek-at t) seek.Post = search depth 0 in
+    let after-on : seek-lts.After-on (on-reads.Asked, on-reads.Learnt, seek-below t, seek.Post) (seek-at t) seek.Post = search
+    depth 0 in
+    let start : seek-lts.Start (on-reads.Asked, on-reads.Learnt, seek-below t, seek.Post) (seek-at t) seek.Post = search
+    depth 0 in
     let a = start .args in
     let step = seek-some (a .masters .now) (a .step) (a .untried) (a .a) (omega arith) in
     (rw (step, ← after-on .on .ensures .0) (if-same _ (c .if2 .taken) refl), after-on .on .ensures .1)
@@ -88,12 +91,17 @@ seek-returns-3 : (t : ℕ) → seek-lts.Need-returns-3 (
 ) (seek-at t) seek.Post
 unfolding member
 seek-returns-3 t c =
-    let else2 : seek-lts.Else2 (on-reads.Asked, on-reads.Learnt, seek-below t, seek.Post) (seek-at t) seek.Post = search depth 0 in
-    let after-on : seek-lts.After-on (on-reads.Asked, on-reads.Learnt, seek-below t, seek.Post) (seek-at t) seek.Post = search depth 0 in
-    let start : seek-lts.Start (on-reads.Asked, on-reads.Learnt, seek-below t, seek.Post) (seek-at t) seek.Post = search depth 0 in
+    let else2 : seek-lts.Else2 (on-reads.Asked, on-reads.Learnt, seek-below t, seek.Post) (seek-at t) seek.Post = search
+    depth 0 in
+    let after-on : seek-lts.After-on (on-reads.Asked, on-reads.Learnt, seek-below t, seek.Post) (seek-at t) seek.Post = search
+    depth 0 in
+    let start : seek-lts.Start (on-reads.Asked, on-reads.Learnt, seek-below t, seek.Post) (seek-at t) seek.Post = search
+    depth 0 in
     let a = start .args in
-    let step = seek-some (a .masters .now) (a .step) (a .untried) (a .a) (omega arith) in
-    (rw (step, ← after-on .on .ensures .0) (unless-same _ (else2 .if2 .left) (c .seek .ensures .0)), c .seek .ensures .1)
+    let step = seek-some (a .masters .now) (a .step) (a .untried) (a .a) (omega arith) in (
+      rw (step, ← after-on .on .ensures .0) (unless-same _ (else2 .if2 .left) (c .seek .ensures .0)),
+      c .seek .ensures .1,
+    )
 
 pub +seek-spec : {M : Type 1} → statement M
 +seek-spec = close μ-seek λ t. seek-lts.spec (

@@ -29,7 +29,14 @@ returns c =
     let after-close : tie.After-close = search depth 0 in
     let after-at : tie.After-at = search depth 0 in
     let after-current : tie.After-current = search depth 0 in
-    cc (after-current .current .ensures .0, after-at .at .ensures, after-close .close .ensures, after-put .put .ensures, after-fill .fill .ensures, c .confirm .ensures)
+    cc (
+      after-current .current .ensures .0,
+      after-at .at .ensures,
+      after-close .close .ensures,
+      after-put .put .ensures,
+      after-fill .fill .ensures,
+      c .confirm .ensures,
+    )
 
 pub confirm-spec : {M : Type 1} → statement M
 confirm-spec =

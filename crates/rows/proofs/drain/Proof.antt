@@ -6,7 +6,8 @@ use Rattle.rows.proofs.drain.Statement.{statement}
 use Rattle.rows.proofs.drain.Tie as tie
 
 abbrev Inv-loop : tie.InvT-loop
-Inv-loop count row₀ area₀ rest₀ sendings₀ t7 row area rest sendings = Draining rest₀ count row₀ area₀ rest sendings row area
+Inv-loop count row₀ area₀ rest₀ sendings₀ t7 row area rest sendings =
+    Draining rest₀ count row₀ area₀ rest sendings row area
 
 abbrev μ-loop : tie.MeasureT-loop
 μ-loop count row₀ area₀ rest₀ sendings₀ t7 row area rest sendings = rest .unconfirmed

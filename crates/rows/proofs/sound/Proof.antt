@@ -43,8 +43,11 @@ returns c =
     let at-loop : tie.At-loop Inv-loop μ-loop = search depth 0 in
     let start : tie.Start Inv-loop μ-loop = search depth 0 in
     let a = start .args in
-    let f = faulted (a .ts .0) (a .q) (a .row .now) (at-loop .loop .n - 1) (after-place .place .ensures .0) (after-at .at .ensures) (after-wide .wide .ensures .0) (after-unfit .unfit .ensures) in
-    sym (at-loop .loop .inv .1 ∙ sound-stops (a .ts .0) (a .q) (a .row .now) (at-loop .loop .n) (omega (arith, in-loop .loop-test .taken)) (λ z. c .if1 .taken (f ∙ z)))
+    let f = faulted (a .ts .0) (a .q) (a .row .now) (at-loop .loop .n - 1) (after-place .place .ensures .0)
+    (after-at .at .ensures) (after-wide .wide .ensures .0) (after-unfit .unfit .ensures) in
+    sym
+    (at-loop .loop .inv .1 ∙ sound-stops (a .ts .0) (a .q) (a .row .now) (at-loop .loop .n)
+    (omega (arith, in-loop .loop-test .taken)) (λ z. c .if1 .taken (f ∙ z)))
 
 loop-less : tie.Need-loop-less Inv-loop μ-loop
 loop-less c = omega arith
@@ -59,8 +62,12 @@ loop-again c =
     let at-loop : tie.At-loop Inv-loop μ-loop = search depth 0 in
     let start : tie.Start Inv-loop μ-loop = search depth 0 in
     let a = start .args in
-    let f = faulted (a .ts .0) (a .q) (a .row .now) (at-loop .loop .n - 1) (after-place .place .ensures .0) (after-at .at .ensures) (after-wide .wide .ensures .0) (after-unfit .unfit .ensures) in
-    (omega (arith, at-loop .loop .inv .0), at-loop .loop .inv .1 ∙ sound-one (a .ts .0) (a .q) (a .row .now) (at-loop .loop .n) (omega (arith, in-loop .loop-test .taken)) (sym f ∙ c .if1 .left))
+    let f = faulted (a .ts .0) (a .q) (a .row .now) (at-loop .loop .n - 1) (after-place .place .ensures .0)
+    (after-at .at .ensures) (after-wide .wide .ensures .0) (after-unfit .unfit .ensures) in (
+      omega (arith, at-loop .loop .inv .0),
+      at-loop .loop .inv .1 ∙ sound-one (a .ts .0) (a .q) (a .row .now) (at-loop .loop .n)
+          (omega (arith, in-loop .loop-test .taken)) (sym f ∙ c .if1 .left),
+    )
 
 returns-2 : tie.Need-returns-2 Inv-loop μ-loop
 returns-2 c =

@@ -7,11 +7,16 @@ use Rattle.serve.proofs.begin.Tie as tie
 
 choose-requires : tie.Need-choose-requires
 choose-requires c κs =
-    let p = c .before .before .before .before .before .before .before .pre in
-    (rw (c .before .beginning .ensures) (sited-beginning _ (p .0)), p .1)
+    let after-beginning : tie.After-beginning = search depth 0 in
+    let start : tie.Start = search depth 0 in
+    let p = start .pre in
+    (rw (after-beginning .beginning .ensures) (sited-beginning _ (p .0)), p .1)
 
 returns : tie.Need-returns
-returns c = does-begin _ _ (rw (c .before .before .before .before .beginning .ensures) at (c .before .before .choose .ensures))
+returns c =
+    let after-choose : tie.After-choose = search depth 0 in
+    let after-beginning : tie.After-beginning = search depth 0 in
+    does-begin _ _ (rw (after-beginning .beginning .ensures) at (after-choose .choose .ensures))
 
 pub begin-spec : {M : Type 1} → statement M
 begin-spec =

@@ -8,16 +8,27 @@ use Rattle.serve.proofs.choose.Tie as tie
 
 serve-requires : tie.Need-serve-requires
 serve-requires c κs =
-    let p = c .before .before .before .before .before .before .before .before .before .before .pre in
-    (p .0, (chosen-waits _ _ _ _ (sym (c .before .before .p .given .1) ∙ c .before .before .before .before .choice .ensures), p .1))
+    let after-p : tie.After-p = search depth 0 in
+    let after-choice : tie.After-choice = search depth 0 in
+    let start : tie.Start = search depth 0 in
+    let p = start .pre in
+    (p .0, (chosen-waits _ _ _ _ (sym (after-p .p .given .1) ∙ after-choice .choice .ensures), p .1))
 
 returns : tie.Need-returns
 returns c =
-    does-serve _ _ _ _ (sym (c .before .before .before .before .before .p .given .1) ∙ c .before .before .before .before .before .before .before .choice .ensures) (c .before .before .serve .ensures)
+    let after-serve : tie.After-serve = search depth 0 in
+    let after-p : tie.After-p = search depth 0 in
+    let after-choice : tie.After-choice = search depth 0 in
+    does-serve _ _ _ _ (sym (after-p .p .given .1) ∙ after-choice .choice .ensures) (after-serve .serve .ensures)
 
 returns-2 : tie.Need-returns-2
 returns-2 c =
-    does-pass-on _ _ _ (sym (c .before .before .before .before .before .enum-told .given .1) ∙ c .before .before .before .before .before .before .before .choice .ensures) (does-pass _ _ (c .before .before .before .before .next .ensures .0) (c .before .before .pass-to .ensures))
+    let after-pass-to : tie.After-pass-to = search depth 0 in
+    let after-next : tie.After-next = search depth 0 in
+    let after-enum-told : tie.After-enum-told = search depth 0 in
+    let after-choice : tie.After-choice = search depth 0 in
+    does-pass-on _ _ _ (sym (after-enum-told .enum-told .given .1) ∙ after-choice .choice .ensures)
+    (does-pass _ _ (after-next .next .ensures .0) (after-pass-to .pass-to .ensures))
 
 pub choose-spec : {M : Type 1} → statement M
 choose-spec =

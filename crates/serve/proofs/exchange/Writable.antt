@@ -46,7 +46,10 @@ length-access n = length-pick (same n 255) n
 
 -- ---- the control of a request is lawful, and an SDN's is an SDN
 lawful-high : (a b f v : Bool)
-    → lawful (pick b (Request (pick a SdaHigh (pick b SdnHigh SrdHigh)) false false) (Request (pick a SdaHigh (pick b SdnHigh SrdHigh)) f v)) ≡ true
+    → lawful
+    (pick b (Request (pick a SdaHigh (pick b SdnHigh SrdHigh)) false false)
+    (Request (pick a SdaHigh (pick b SdnHigh SrdHigh)) f v))
+    ≡ true
 unfolding pick said lawful
 lawful-high true true f v = refl
 lawful-high true false f v = refl
@@ -54,7 +57,10 @@ lawful-high false true f v = refl
 lawful-high false false f v = refl
 
 lawful-low : (a b f v : Bool)
-    → lawful (pick b (Request (pick a SdaLow (pick b SdnLow SrdLow)) false false) (Request (pick a SdaLow (pick b SdnLow SrdLow)) f v)) ≡ true
+    → lawful
+    (pick b (Request (pick a SdaLow (pick b SdnLow SrdLow)) false false)
+    (Request (pick a SdaLow (pick b SdnLow SrdLow)) f v))
+    ≡ true
 unfolding pick said lawful
 lawful-low true true f v = refl
 lawful-low true false f v = refl

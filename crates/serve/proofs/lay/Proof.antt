@@ -6,19 +6,48 @@ use Rattle.serve.proofs.lay.Statement.{statement}
 use Rattle.serve.proofs.lay.Tie as tie
 
 current-requires : tie.Need-current-requires
-current-requires c κs = rw (c .queue-of .ensures) (ruled-of _ _ (c .before .before .before .before .before .pre .0 .core))
+current-requires c κs =
+    let start : tie.Start = search depth 0 in
+    rw (c .queue-of .ensures) (ruled-of _ _ (start .pre .0 .core))
 
 at-requires : tie.Need-at-requires
-at-requires c κs = in-row (c .before .before .before .before .before .before .pre .0 .lent) (rw (c .before .queue-of .ensures) at (c .current .ensures .1))
+at-requires c κs =
+    let after-queue-of : tie.After-queue-of = search depth 0 in
+    let start : tie.Start = search depth 0 in
+    in-row (start .pre .0 .lent) (rw (after-queue-of .queue-of .ensures) at (c .current .ensures .1))
 
 lay-request-requires : tie.Need-lay-request-requires
 lay-request-requires c κs =
-    let p = c .before .before .before .before .before .before .before .before .before .before .before .before .before .pre in
-    (omega (arith, p .0 .core .ts), (fit-laid _ _ _ (c .before .before .before .before .before .before .before .before .queue-of .ensures) (c .before .before .before .before .before .before .before .current .ensures .0) (c .before .before .before .before .before .before .at .ensures) (c .before .before .before .wide .ensures .0) (c .before .before .wide2 .ensures .0) (c .before .part .ensures) (p .0), p .1))
+    let after-part : tie.After-part = search depth 0 in
+    let after-wide2 : tie.After-wide2 = search depth 0 in
+    let after-wide : tie.After-wide = search depth 0 in
+    let after-at : tie.After-at = search depth 0 in
+    let after-current : tie.After-current = search depth 0 in
+    let after-queue-of : tie.After-queue-of = search depth 0 in
+    let start : tie.Start = search depth 0 in
+    let p = start .pre in (
+      omega (arith, p .0 .core .ts),
+      (
+        fit-laid _ _ _ (after-queue-of .queue-of .ensures) (after-current .current .ensures .0)
+            (after-at .at .ensures) (after-wide .wide .ensures .0) (after-wide2 .wide2 .ensures .0)
+            (after-part .part .ensures) (p .0),
+        p .1,
+      ),
+    )
 
 returns : tie.Need-returns
 returns c =
-    lays-first _ _ _ (c .before .before .before .before .before .before .before .before .before .before .before .queue-of .ensures) (c .before .before .before .before .before .before .before .before .before .before .current .ensures .0) (c .before .before .before .before .before .before .before .before .before .at .ensures) (c .before .before .before .before .before .before .wide .ensures .0) (c .before .before .before .before .before .wide2 .ensures .0) (c .before .before .before .before .part .ensures) _ (c .before .before .before .before .before .before .before .mark-of .ensures) (c .before .before .lay-request .ensures)
+    let after-lay-request : tie.After-lay-request = search depth 0 in
+    let after-part : tie.After-part = search depth 0 in
+    let after-wide2 : tie.After-wide2 = search depth 0 in
+    let after-wide : tie.After-wide = search depth 0 in
+    let after-mark-of : tie.After-mark-of = search depth 0 in
+    let after-at : tie.After-at = search depth 0 in
+    let after-current : tie.After-current = search depth 0 in
+    let after-queue-of : tie.After-queue-of = search depth 0 in
+    lays-first _ _ _ (after-queue-of .queue-of .ensures) (after-current .current .ensures .0) (after-at .at .ensures)
+    (after-wide .wide .ensures .0) (after-wide2 .wide2 .ensures .0) (after-part .part .ensures) _
+    (after-mark-of .mark-of .ensures) (after-lay-request .lay-request .ensures)
 
 pub lay-spec : {M : Type 1} → statement M
 lay-spec =

@@ -8,7 +8,11 @@ use Rattle.serve.proofs.pass_to.Tie as tie
 returns : tie.Need-returns
 unfolding passCore passEvents tokenTo
 returns c =
-    sends-one _ _ _ _ (cc (c .with-doing .ensures, c .before .passing .ensures)) (c .before .before .wait-after .ensures) (c .before .before .before .before .before .lay-token .ensures)
+    let after-passing : tie.After-passing = search depth 0 in
+    let after-wait-after : tie.After-wait-after = search depth 0 in
+    let after-lay-token : tie.After-lay-token = search depth 0 in
+    sends-one _ _ _ _ (cc (c .with-doing .ensures, after-passing .passing .ensures))
+    (after-wait-after .wait-after .ensures) (after-lay-token .lay-token .ensures)
 
 pub pass-to-spec : {M : Type 1} → statement M
 pass-to-spec =

@@ -8,7 +8,12 @@ use Rattle.serve.proofs.send.Tie as tie
 returns : tie.Need-returns
 unfolding sendCore sendEvents
 returns c =
-    sends-one _ _ _ _ (cc (c .with-doing .ensures, c .before .sending .ensures, c .before .before .service .ensures)) (c .before .before .before .wait-after .ensures) (c .before .before .before .before .before .before .lay .ensures)
+    let after-sending : tie.After-sending = search depth 0 in
+    let after-service : tie.After-service = search depth 0 in
+    let after-wait-after : tie.After-wait-after = search depth 0 in
+    let after-lay : tie.After-lay = search depth 0 in
+    sends-one _ _ _ _ (cc (c .with-doing .ensures, after-sending .sending .ensures, after-service .service .ensures))
+    (after-wait-after .wait-after .ensures) (after-lay .lay .ensures)
 
 pub send-spec : {M : Type 1} → statement M
 send-spec =

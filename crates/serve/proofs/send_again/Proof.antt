@@ -8,7 +8,11 @@ use Rattle.serve.proofs.send_again.Tie as tie
 returns : tie.Need-returns
 unfolding againEvents
 returns c =
-    sends-one _ _ _ _ (cc (c .with-doing .ensures, c .before .once .ensures)) (c .before .before .before .wait-for .ensures) (c .before .before .before .before .before .before .lay .ensures)
+    let after-once : tie.After-once = search depth 0 in
+    let after-wait-for : tie.After-wait-for = search depth 0 in
+    let after-lay : tie.After-lay = search depth 0 in
+    sends-one _ _ _ _ (cc (c .with-doing .ensures, after-once .once .ensures)) (after-wait-for .wait-for .ensures)
+    (after-lay .lay .ensures)
 
 pub send-again-spec : {M : Type 1} → statement M
 send-again-spec =

@@ -7,7 +7,10 @@ use Rattle.station.proofs.frame.Tie as tie
 
 returns : tie.Need-returns
 unfolding worldOf
-returns c = answered _ _ (c .before .before .before .before .before .before .before .before .before .before .before .before .before .frame .ensures)
+returns c =
+    answered _ _
+    (c .before .before .before .before .before .before .before .before .before .before .before .before .before .frame
+    .ensures)
 
 pub frame-spec : {M : Type 1} → statement M
 frame-spec =

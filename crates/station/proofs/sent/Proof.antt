@@ -7,7 +7,10 @@ use Rattle.station.proofs.sent.Tie as tie
 
 returns : tie.Need-returns
 unfolding worldOf
-returns c = answered _ _ (c .before .before .before .before .before .before .before .before .before .before .before .before .before .sent .ensures .told _ _)
+returns c =
+    answered _ _
+    (c .before .before .before .before .before .before .before .before .before .before .before .before .before .sent
+    .ensures .told _ _)
 
 pub sent-spec : {M : Type 1} → statement M
 sent-spec =

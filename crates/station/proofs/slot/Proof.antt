@@ -7,7 +7,10 @@ use Rattle.station.proofs.slot.Tie as tie
 
 returns : tie.Need-returns
 unfolding worldOf
-returns c = answered _ _ (c .before .before .before .before .before .before .before .before .before .before .before .before .before .slot .ensures .told _ _)
+returns c =
+    answered _ _
+    (c .before .before .before .before .before .before .before .before .before .before .before .before .before .slot
+    .ensures .told _ _)
 
 pub slot-spec : {M : Type 1} → statement M
 slot-spec =

@@ -8,18 +8,36 @@ use Rattle.station_lent.proofs.frame.Tie as tie
 
 returns : tie.Need-returns
 returns c =
-    let a = c .before .before .before .before .before .before .before .before .before .before .before .before .before .before .before .before .args in
-    rw (frame-denied _ _ _ _ _ _ _ _ _ _ (a .out .now) _ (a .first .now) (a .second .now) _ (c .before .before .refusal .ensures) (c .before .if1 .taken)) (stands-refused _ (c .refuse .ensures))
+    let then1 : tie.Then1 = search depth 0 in
+    let after-refusal : tie.After-refusal = search depth 0 in
+    let after-slice-known4 : tie.After-slice-known4 = search depth 0 in
+    let start : tie.Start = search depth 0 in
+    let a = start .args in
+    rw
+    (frame-denied _ _ _ _ _ _ _ _ _ _ (a .out .now) _ (a .first .now) (a .second .now) _
+    (after-refusal .refusal .ensures) (then1 .if1 .taken)) (stands-refused _ (c .refuse .ensures))
 
 hear-requires : tie.Need-hear-requires
 hear-requires c κs =
-    let e = sym (c .before .before .before .before .before .before .before .before .before .refusal .ensures) ∙ c .before .before .before .before .before .before .before .before .if1 .left in
+    let after-hear-arg : tie.After-hear-arg = search depth 0 in
+    let else1 : tie.Else1 = search depth 0 in
+    let after-refusal : tie.After-refusal = search depth 0 in
+    let e = sym (after-refusal .refusal .ensures) ∙ else1 .if1 .left in
     (listening _ _ _ _ _ _ _ _ _ e, underway _ _ _ _ _ _ _ _ _ e)
 
 returns-2 : tie.Need-returns-2
 returns-2 c =
-    let a = c .before .before .before .before .before .before .before .before .before .before .before .before .before .before .before .before .before .before .before .before .before .before .before .before .before .before .before .before .before .before .before .before .before .before .args in
-    rw (frame-granted _ _ _ _ _ _ _ _ _ _ (a .out .now) _ (a .first .now) (a .second .now) _ (c .before .before .before .before .before .before .before .before .before .before .before .before .before .before .before .before .before .before .before .before .refusal .ensures) (c .before .before .before .before .before .before .before .before .before .before .before .before .before .before .before .before .before .before .before .if1 .left)) (c .before .before .before .before .before .before .before .before .before .before .hear .ensures .told _)
+    let after-harea : tie.After-harea = search depth 0 in
+    let after-hear : tie.After-hear = search depth 0 in
+    let after-hear-arg2 : tie.After-hear-arg2 = search depth 0 in
+    let else1 : tie.Else1 = search depth 0 in
+    let after-refusal : tie.After-refusal = search depth 0 in
+    let start = after-refusal .before .before .before .before .before .before .before .before .before .before .before
+    .before .before .before in
+    let a = start .args in
+    rw
+    (frame-granted _ _ _ _ _ _ _ _ _ _ (a .out .now) _ (a .first .now) (a .second .now) _
+    (after-refusal .refusal .ensures) (else1 .if1 .left)) (after-hear .hear .ensures .told _)
 
 pub frame-spec : {M : Type 1} → statement M
 frame-spec =

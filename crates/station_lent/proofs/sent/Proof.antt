@@ -9,15 +9,31 @@ use Rattle.station_lent.proofs.sent.Statement.{statement}
 use Rattle.station_lent.proofs.sent.Tie as tie
 
 returns : tie.Need-returns
-returns c = record { told = λ p o. rw (sent-denied _ _ _ _ _ _ _ _ _ _ _ (c .before .before .refusal .ensures) (c .before .if1 .taken)) (stands-refused _ (c .refuse .ensures)) }
+returns c =
+    let then1 : tie.Then1 = search depth 0 in
+    let after-refusal : tie.After-refusal = search depth 0 in
+    record {
+      told = λ p o. rw (sent-denied _ _ _ _ _ _ _ _ _ _ _ (after-refusal .refusal .ensures) (then1 .if1 .taken))
+          (stands-refused _ (c .refuse .ensures));
+    }
 
 sent-in-requires : tie.Need-sent-in-requires
 sent-in-requires c κs =
-    let e = sym (c .before .before .before .before .before .before .before .refusal .ensures) ∙ c .before .before .before .before .before .before .if1 .left in
+    let else1 : tie.Else1 = search depth 0 in
+    let after-refusal : tie.After-refusal = search depth 0 in
+    let e = sym (after-refusal .refusal .ensures) ∙ else1 .if1 .left in
     (sited _ _ _ _ _ _ _ _ _ e, (underway _ _ _ _ _ _ _ _ _ e, output-long _ _ _ _ _ _ _ _ _ e))
 
 returns-2 : tie.Need-returns-2
-returns-2 c = record { told = λ p o. rw (sent-granted _ _ _ _ _ _ _ _ _ _ _ (c .before .before .before .before .before .before .before .before .before .before .before .before .before .before .before .before .before .before .before .refusal .ensures) (c .before .before .before .before .before .before .before .before .before .before .before .before .before .before .before .before .before .before .if1 .left)) (stands-does _ _ _ _ _ _ (calm-sent _ _ _) (c .before .before .before .before .before .before .before .before .before .before .before .sent-in .ensures) (c .moved .ensures)) }
+returns-2 c =
+    let after-low : tie.After-low = search depth 0 in
+    let after-sent-in : tie.After-sent-in = search depth 0 in
+    let else1 : tie.Else1 = search depth 0 in
+    let after-refusal : tie.After-refusal = search depth 0 in
+    record {
+      told = λ p o. rw (sent-granted _ _ _ _ _ _ _ _ _ _ _ (after-refusal .refusal .ensures) (else1 .if1 .left))
+          (stands-does _ _ _ _ _ _ (calm-sent _ _ _) (after-sent-in .sent-in .ensures) (c .moved .ensures));
+    }
 
 pub sent-spec : {M : Type 1} → statement M
 sent-spec =

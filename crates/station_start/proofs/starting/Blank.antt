@@ -9,5 +9,6 @@ use Rattle.state.specs.Calls.{freshCore, freshWorld}
 use Rattle.state.specs.Told.{blankSettings, blank}
 
 pub blank-lawless : lawless (blank .core) (blank .masters .0) (blank .started .0) (blank .memory .kept) ≡ true
-unfolding lawless unstarted unstartable unruly outside pick less same said blank blankSettings stateOf freshWorld freshCore
+unfolding lawless unstarted unstartable unruly outside pick less same said blank blankSettings stateOf freshWorld
+    freshCore
 blank-lawless = refl

@@ -20,7 +20,8 @@ started-pick true x y = refl
 started-pick false x y = refl
 
 -- a refusal more before what is known of the rest
-started-next : (b : Bool) (x y : Started) {r : Renewed} → startedOf y ≡ r → startedOf (pick b x y) ≡ pick b (startedOf x) r
+started-next : (b : Bool) (x y : Started) {r : Renewed} → startedOf y ≡ r
+    → startedOf (pick b x y) ≡ pick b (startedOf x) r
 started-next b x y e = rw (← e) (started-pick b x y)
 
 -- the state of a station with these queues
@@ -50,8 +51,11 @@ module _ (s : Settings) (ts : ℕ) (masters points : List ℕ) (high low : ℕ) 
       (started-next _ _ _
       (started-next _ _ _ refl))))
 
-  pub started-as : {r : Renewed} → r ≡ answer s ts masters points high low → r ≡ startedOf (start s ts masters points high low)
+  pub started-as : {r : Renewed} → r ≡ answer s ts masters points high low
+      → r ≡ startedOf (start s ts masters points high low)
   started-as e = e ∙ sym answered
 
-  pub started-fresh : {h l : Queue} {x : State} → h ≡ emptyQueue high → l ≡ emptyQueue low → x ≡ station s ts masters points h l → begins x ≡ begins (station s ts masters points (emptyQueue high) (emptyQueue low))
+  pub started-fresh : {h l : Queue} {x : State} → h ≡ emptyQueue high → l ≡ emptyQueue low
+      → x ≡ station s ts masters points h l
+      → begins x ≡ begins (station s ts masters points (emptyQueue high) (emptyQueue low))
   started-fresh a b e = rw (e, a, b)

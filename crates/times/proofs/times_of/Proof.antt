@@ -10,12 +10,20 @@ use Rattle.times.proofs.times_of.Tie as tie
 mul-t14 : tie.Need-mul-t14
 mul-t14 c =
     let slot = c .before .before .before .before .tsl in
-    omega (arith, small-product (c .before .before .before .before .before .args .ts .0) (slot .result) (omega arith) (slot .ensures .1))
+    omega (
+      arith,
+      small-product (c .before .before .before .before .before .args .ts .0) (slot .result) (omega arith)
+          (slot .ensures .1),
+    )
 
 add-t15 : tie.Need-add-t15
 add-t15 c =
     let slot = c .before .before .before .before .tsl in
-    omega (arith, small-product (c .before .before .before .before .before .args .ts .0) (slot .result) (omega arith) (slot .ensures .1))
+    omega (
+      arith,
+      small-product (c .before .before .before .before .before .args .ts .0) (slot .result) (omega arith)
+          (slot .ensures .1),
+    )
 
 pub times-of-spec : {M : Type 1} → statement M
 unfolding timesOf tto

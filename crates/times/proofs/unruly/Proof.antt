@@ -42,7 +42,8 @@ returns-8 c = search (picks, asked) depth 20
 
 too-long-requires : tie.Need-too-long-requires
 too-long-requires c κs =
-    let a = c .before .before .before .before .before .before .before .before .before .before .before .before .args .s in
+    let a = c .before .before .before .before .before .before .before .before .before .before .before .before .args
+    .s in
     let tset = outside-within (a .tset .0) 20 255 (cc) in
     let most = outside-within (a .maxtsdr .0) (a .mintsdr .0) 65535 (cc) in
     record { tset = tset .1; tqui = omega arith; maxtsdr = most .1; ttd = omega arith }

@@ -11,7 +11,8 @@ returns c =
     let after-once : tie.After-once = search depth 0 in
     let after-wait-for : tie.After-wait-for = search depth 0 in
     let after-lay-token : tie.After-lay-token = search depth 0 in
-    sends-one _ _ _ _ (cc (c .with-doing .ensures, after-once .once .ensures)) (after-wait-for .wait-for .ensures) (after-lay-token .lay-token .ensures)
+    sends-one _ _ _ _ (cc (c .with-doing .ensures, after-once .once .ensures)) (after-wait-for .wait-for .ensures)
+    (after-lay-token .lay-token .ensures)
 
 pub pass-again-spec : {M : Type 1} → statement M
 pass-again-spec =

@@ -7,16 +7,27 @@ use native.Mathlib.Omega.{arith}
 use Rattle.typed_lines.proofs.Kept.{put-more, put-full}
 
 slice-write-line : tie.Need-slice-write-line
-slice-write-line c = omega (arith, c .before .pre .0)
+slice-write-line c =
+    let start : tie.Start = search depth 0 in
+    omega (arith, start .pre .0)
 
 add-result : tie.Need-add-result
 add-result c = omega arith
 
 returns : tie.Need-returns
-returns c = (put-more (c .before .args .line .now) (c .before .args .count) (c .before .args .c) (c .before .pre .0) (c .if1 .taken), omega arith)
+returns c =
+    let start : tie.Start = search depth 0 in (
+      put-more (start .args .line .now) (start .args .count) (start .args .c) (start .pre .0) (c .if1 .taken),
+      omega arith,
+    )
 
 returns-2 : tie.Need-returns-2
-returns-2 c = (put-full (c .before .args .line .now) (c .before .args .count) (c .before .args .c) (c .before .pre .0) (c .if1 .left) (c .before .pre .1), c .before .pre .1)
+returns-2 c =
+    let start : tie.Start = search depth 0 in (
+      put-full (start .args .line .now) (start .args .count) (start .args .c) (start .pre .0) (c .if1 .left)
+          (start .pre .1),
+      start .pre .1,
+    )
 
 pub put-spec : {M : Type 1} → statement M
 put-spec = tie.close (tie.spec slice-write-line add-result (λ c. search needs) returns returns-2)

@@ -1,6 +1,8 @@
--- `view::data_of` meets its contract: a walk of its MIR, by hand. The `Reader` that `new` returns is held in a local and passed to `shown`, whose slice is the result. All that the proof knows of the two is that each meets its contract.
--- What the slice passed owns is had twice, and one copy is kept for the exit. In a local of a body MIR erases the lifetime of the struct's type, so the value is shown to have the type at `erased`: what the struct owns does not say the lifetime's name.
--- Assumes nothing.
+-- `view::data_of` meets its contract: a walk of its MIR, by hand. The `Reader` that `new` returns is held in a local
+-- and passed to `shown`, whose slice is the result. All that the proof knows of the two is that each meets its
+-- contract. What the slice passed owns is had twice, and one copy is kept for the exit. In a local of a body MIR
+-- erases the lifetime of the struct's type, so the value is shown to have the type at `erased`: what the struct owns
+-- does not say the lifetime's name. Assumes nothing.
 use mathlib.Core.Path.{_≡_, refl, ap, _∙_}
 use Prim.Native.Nat.{ℕ, _<_, _^_}
 use mathlib.Core.List.{List, [], _∷_}
@@ -62,7 +64,10 @@ abbrev B : Lfts 1 → RattleType
 B κs = T.the-row (namedLft 1 0 tt κs)
 
 abbrev stayed : Stays (data-of.ended .signature .params) (data-of.ended .kept)
-stayed = (stay-none-slice (0 ∷ []) tt (plain (λ _. u8)) yes, (stay-none (λ _. usize) yes, (stay-none (λ _. usize) yes, tt)))
+stayed = (
+  stay-none-slice (0 ∷ []) tt (plain (λ _. u8)) yes,
+  (stay-none (λ _. usize) yes, (stay-none (λ _. usize) yes, tt)),
+)
 
 module _ {M : Type 1} (𝓤 : URA M) (H : Heap 𝓤) (A : Atoms 𝓤) (mem : Memory → SProp 𝓤) (run : Routine → Fun 𝓤) where
   -- the contracts that the proof cites
@@ -72,7 +77,9 @@ module _ {M : Type 1} (𝓤 : URA M) (H : Heap 𝓤) (A : Atoms 𝓤) (mem : Mem
   abbrev Shown : Contract 𝓤
   Shown = tripleOf 𝓤 H A shown.signature (shown.spec 𝓤 H A mem run)
 
-module _ {M : Type 1} (𝓤 : URA M) (H : Heap 𝓤) (A : Atoms 𝓤) (W : Given 𝓤 H A) (mem : Memory → SProp 𝓤) (run : Routine → Fun 𝓤) (κ : Lft) (q : Share) (s : RefT (List ℕ)) (i : ℕ) (i-fits : i < 2 ^ 64) (n : ℕ) (n-fits : n < 2 ^ 64) where
+module _ {M : Type 1} (𝓤 : URA M) (H : Heap 𝓤) (A : Atoms 𝓤) (W : Given 𝓤 H A) (mem : Memory → SProp 𝓤)
+    (run : Routine → Fun 𝓤) (κ : Lft) (q : Share) (s : RefT (List ℕ)) (i : ℕ) (i-fits : i < 2 ^ 64) (n : ℕ)
+    (n-fits : n < 2 ^ 64) where
   abbrev κs : Lfts 1
   κs = (κ, tt)
 
@@ -114,14 +121,18 @@ module _ {M : Type 1} (𝓤 : URA M) (H : Heap 𝓤) (A : Atoms 𝓤) (W : Given
   to-new = ((κs, (q, tt), tt, a, vals), tt)
 
   asked-new : ent 𝓤 (onEntry 𝓤 H A new.signature κs (q, tt) a vals) (New 𝓤 H A mem run .pre to-new)
-  asked-new = qed W ((‵ (flft κ q) ⊛ ‵ ftrue) ∷ ‵ (owns (Slice ∷ usize ∷ usize ∷ []) a vals) ∷ []) ∵ join ! $ frame ! $ done !
+  asked-new =
+      qed W ((‵ (flft κ q) ⊛ ‵ ftrue) ∷ ‵ (owns (Slice ∷ usize ∷ usize ∷ []) a vals) ∷ []) ∵ join ! $ frame ! $ done !
 
-  goes-new : ent 𝓤 (onEntry 𝓤 H A data-of.signature κs (q, tt) a vals) (sep 𝓤 (New 𝓤 H A mem run .pre to-new) (sem 𝓤 H A Own))
+  goes-new : ent 𝓤 (onEntry 𝓤 H A data-of.signature κs (q, tt) a vals)
+      (sep 𝓤 (New 𝓤 H A mem run .pre to-new) (sem 𝓤 H A Own))
   goes-new =
       qed W ((‵ (flft κ q) ⊛ ‵ ftrue) ∷ ‵ (owns (Slice ∷ usize ∷ usize ∷ []) a vals) ∷ []) ∵
-      move ! (1 ∷ []) $ fsplit ! $ use1 W (‵ Own ⊛ ‵ Own) (shr-slice-copy 𝓤 H A W (named 0) κ u8 .twice s (v ∷ [])) $ split ! $
+      move ! (1 ∷ []) $ fsplit ! $ use1 W (‵ Own ⊛ ‵ Own) (shr-slice-copy 𝓤 H A W (named 0) κ u8 .twice s (v ∷ [])) $
+      split ! $
       -- [what s owns, twice; what the numbers own; the token]
-      move ! (0 ∷ 2 ∷ []) $ fjoin ! $ move ! (2 ∷ 0 ∷ []) $ use2 W (raw (New 𝓤 H A mem run .pre to-new)) asked-new $ frame ! $ done !
+      move ! (0 ∷ 2 ∷ []) $ fjoin ! $ move ! (2 ∷ 0 ∷ []) $ use2 W (raw (New 𝓤 H A mem run .pre to-new)) asked-new $
+      frame ! $ done !
 
   abbrev Made : Reader → Type 0
   Made r = (r .octets ≡ s) × ((r .start ≡ i) × (r .count ≡ n))
@@ -133,59 +144,102 @@ module _ {M : Type 1} (𝓤 : URA M) (H : Heap 𝓤) (A : Atoms 𝓤) (W : Given
   abbrev to-shown : Reader → Val → Shown 𝓤 H A mem run .Ghost
   to-shown r u = ((κs, (q, tt), tt, (r, tt), (u ∷ [], tt)), tt)
 
-  goes-shown : (r : Reader) (u : Val) → ent 𝓤 (⋆ 𝓤 H A (‵ (B κs .own r (u ∷ [])) ∷ (‵ (flft κ q) ⊛ ‵ ftrue) ∷ [])) (Shown 𝓤 H A mem run .pre (to-shown r u))
-  goes-shown r u = qed W (‵ (B κs .own r (u ∷ [])) ∷ (‵ (flft κ q) ⊛ ‵ ftrue) ∷ []) ∵ nothing ! $ move ! (1 ∷ 0 ∷ []) $ fjoin ! $ move ! (1 ∷ 0 ∷ []) $ join ! $ frame ! $ done !
+  goes-shown : (r : Reader) (u : Val)
+      → ent 𝓤 (⋆ 𝓤 H A (‵ (B κs .own r (u ∷ [])) ∷ (‵ (flft κ q) ⊛ ‵ ftrue) ∷ []))
+      (Shown 𝓤 H A mem run .pre (to-shown r u))
+  goes-shown r u =
+      qed W (‵ (B κs .own r (u ∷ [])) ∷ (‵ (flft κ q) ⊛ ‵ ftrue) ∷ []) ∵ nothing ! $ move ! (1 ∷ 0 ∷ []) $ fjoin ! $
+      move ! (1 ∷ 0 ∷ []) $ join ! $ frame ! $ done !
 
-  shown-said : (r : Reader) (t : RefT (List ℕ)) → ent 𝓤 (ensured 𝓤 H A shown.ended (shown.clauses 𝓤 H A mem run) κs (r, tt) tt t) (fact 𝓤 (now t ≡ part-of r))
+  shown-said : (r : Reader) (t : RefT (List ℕ))
+      → ent 𝓤 (ensured 𝓤 H A shown.ended (shown.clauses 𝓤 H A mem run) κs (r, tt) tt t) (fact 𝓤 (now t ≡ part-of r))
   shown-said r t = exE 𝓤 _ (λ ws. snd∗ 𝓤 (sem 𝓤 H A (lasts shown.ended κs (r, tt) ws)) (fact 𝓤 (now t ≡ part-of r)))
 
   -- the part that the made reader shows is the one wanted
   same : (r : Reader) → Made r → part-of r ≡ found
-  same r e = ap (λ (x : RefT (List ℕ)). Reading.part (now x) (r .start) (r .count)) (e .0) ∙ (ap (λ (k : ℕ). Reading.part (now s) k (r .count)) (e .1 .0) ∙ ap (Reading.part (now s) i) (e .1 .1))
+  same r e =
+      ap (λ (x : RefT (List ℕ)). Reading.part (now x) (r .start) (r .count)) (e .0) ∙
+      (ap (λ (k : ℕ). Reading.part (now s) k (r .count)) (e .1 .0) ∙ ap (Reading.part (now s) i) (e .1 .1))
 
-  exits : (t : RefT (List ℕ)) (u : Val) → now t ≡ found → ent 𝓤 (⋆ 𝓤 H A (‵ (Slice .own t (u ∷ [])) ∷ (‵ (flft κ q) ⊛ ‵ ftrue) ∷ ‵ Own ∷ [])) (Post u)
+  exits : (t : RefT (List ℕ)) (u : Val) → now t ≡ found
+      → ent 𝓤 (⋆ 𝓤 H A (‵ (Slice .own t (u ∷ [])) ∷ (‵ (flft κ q) ⊛ ‵ ftrue) ∷ ‵ Own ∷ [])) (Post u)
   exits t u e =
       qed W (‵ (Slice .own t (u ∷ [])) ∷ (‵ (flft κ q) ⊛ ‵ ftrue) ∷ ‵ Own ∷ []) ∵
-      suffices ! _ (ends-at 𝓤 H A data-of.ended stayed (data-of.clauses 𝓤 H A mem run) W ((κs, (q, tt), tt, a, vals), tt) u t (tt, (tt, (tt, tt))) (tt, (tt, (tt, tt)))) $ says ! e $
-      move ! (1 ∷ []) $ frame ! $ nothing ! $ owned ! usize (Is usize) (uint-makes 𝓤 H A W w64) n _ (refl, n-fits) $ fjoin ! $ owned ! usize (Is usize) (uint-makes 𝓤 H A W w64) i _ (refl, i-fits) $ fjoin ! $
+      suffices ! _
+      (ends-at 𝓤 H A data-of.ended stayed (data-of.clauses 𝓤 H A mem run) W ((κs, (q, tt), tt, a, vals), tt) u t
+      (tt, (tt, (tt, tt))) (tt, (tt, (tt, tt)))) $ says ! e $
+      move ! (1 ∷ []) $ frame ! $ nothing ! $ owned ! usize (Is usize) (uint-makes 𝓤 H A W w64) n _ (refl, n-fits) $
+      fjoin ! $ owned ! usize (Is usize) (uint-makes 𝓤 H A W w64) i _ (refl, i-fits) $ fjoin ! $
       -- [what the numbers own; the result; what s owns]
       move ! (2 ∷ 0 ∷ []) $ fjoin ! $ frame ! $ done !
 
-  module _ (C : Calls 𝓤 H) (Λ : Loops 𝓤 H) (fm : FmC 𝓤 H (W .laws) C) (known-new : Triple 𝓤 (C #view·new) (New 𝓤 H A mem run)) (known-shown : Triple 𝓤 (C #view·shown) (Shown 𝓤 H A mem run)) where
-    walk : Is Slice s (v ∷ []) → ent 𝓤 (onEntry 𝓤 H A data-of.signature κs (q, tt) a vals) (WpFn 𝓤 H C Λ code.function (v ∷ vint w64 i ∷ vint w64 n ∷ []) Post)
+  module _ (C : Calls 𝓤 H) (Λ : Loops 𝓤 H) (fm : FmC 𝓤 H (W .laws) C)
+      (known-new : Triple 𝓤 (C #view·new) (New 𝓤 H A mem run))
+      (known-shown : Triple 𝓤 (C #view·shown) (Shown 𝓤 H A mem run)) where
+    walk : Is Slice s (v ∷ [])
+        → ent 𝓤 (onEntry 𝓤 H A data-of.signature κs (q, tt) a vals)
+        (WpFn 𝓤 H C Λ code.function (v ∷ vint w64 i ∷ vint w64 n ∷ []) Post)
     walk p =
-        qed W (raw (onEntry 𝓤 H A data-of.signature κs (q, tt) a vals) ∷ []) ∵ enter ! C Λ code.function (v ∷ vint w64 i ∷ vint w64 n ∷ []) _ $
+        qed W (raw (onEntry 𝓤 H A data-of.signature κs (q, tt) a vals) ∷ []) ∵ enter ! C Λ code.function
+        (v ∷ vint w64 i ∷ vint w64 n ∷ []) _ $
         alloc1 ! (λ l₀. alloc1 ! (λ l₁. alloc1 ! (λ l₂. alloc1 ! (λ l₃. alloc1 ! (λ l₄. alloc0 ! $ params1 ! $
-        pass1 ! (init ! 6 refl (shr-slice-lawful 𝓤 H A W (named 0) κ u8 .typed s (v ∷ []) p .0)) $ pass1 ! (init ! 4 refl (tt, record { fits = i-fits })) $ pass1 ! (init ! 2 refl (tt, record { fits = n-fits })) $ pass0 ! $
+        pass1 ! (init ! 6 refl (shr-slice-lawful 𝓤 H A W (named 0) κ u8 .typed s (v ∷ []) p .0)) $ pass1 !
+        (init ! 4 refl (tt, record { fits = i-fits })) $ pass1 ! (init ! 2 refl (tt, record { fits = n-fits })) $
+        pass0 ! $
         -- [room for _4; …; _3; …; _2; …; _1; …; room for _0; …; what is had on entry]
         move ! (10 ∷ []) $ use1 W (raw (New 𝓤 H A mem run .pre to-new) ⊛ ‵ Own) goes-new $ split ! $
-        calls-at ! fm (New 𝓤 H A mem run) known-new to-new (and-then ! (load ! (from ! (stop !)) (look ! 8 refl)) (and-then ! (load ! (from ! (stop !)) (look ! 6 refl)) (and-then ! (load ! (from ! (stop !)) (look ! 4 refl)) (no-more !)))) (λ u.
-        use1 W (later (some (λ (r : Reader). ((‵ (flft κ q) ⊛ ‵ ftrue) ⊛ ‵ (B κs .own r (u ∷ []))) ⊛ raw (ensured 𝓤 H A new.ended (new.clauses 𝓤 H A mem run) κs a tt r)))) (id⊢ 𝓤 _) $ await ! tt $ pick ! (λ r.
-        split ! $ move ! (1 ∷ []) $ use1 W (raw (fact 𝓤 (Made r))) (new-said r) $ heard ! (Made r) (λ e. split ! $ move ! (1 ∷ []) $
+        calls-at ! fm (New 𝓤 H A mem run) known-new to-new
+        (and-then ! (load ! (from ! (stop !)) (look ! 8 refl))
+        (and-then ! (load ! (from ! (stop !)) (look ! 6 refl))
+        (and-then ! (load ! (from ! (stop !)) (look ! 4 refl)) (no-more !)))) (λ u.
+        use1 W (later (some (λ (r : Reader). ((‵ (flft κ q) ⊛ ‵ ftrue) ⊛ ‵ (B κs .own r (u ∷ []))) ⊛ raw
+        (ensured 𝓤 H A new.ended (new.clauses 𝓤 H A mem run) κs a tt r)))) (id⊢ 𝓤 _) $ await ! tt $ pick ! (λ r.
+        split ! $ move ! (1 ∷ []) $ use1 W (raw (fact 𝓤 (Made r))) (new-said r) $ heard ! (Made r)
+        (λ e. split ! $ move ! (1 ∷ []) $
         -- [what the struct owns; the token; what s owns; room for _4; …; _3; …; _2; …; _1; …; room for _0; …]
         peeks ! (B κs) (Is (B κs)) (shows 𝓤 H A (B κs)) r (u ∷ []) (λ is.
         land ! (from ! (stop !)) (init ! 3 refl (LL.lawful (T.the-type αᵉ) (T′.the-laws αᵉ) 𝓤 H A W .typed r _ is .0)) $
         use2 W (raw (Shown 𝓤 H A mem run .pre (to-shown r u))) (goes-shown r u) $
-        calls-at ! fm (Shown 𝓤 H A mem run) known-shown (to-shown r u) (and-then ! (load ! (from ! (stop !)) (look ! 2 refl)) (no-more !)) (λ u′.
-        use1 W (later (some (λ (t : RefT (List ℕ)). ((‵ (flft κ q) ⊛ ‵ ftrue) ⊛ ‵ (Slice .own t (u′ ∷ []))) ⊛ raw (ensured 𝓤 H A shown.ended (shown.clauses 𝓤 H A mem run) κs (r, tt) tt t)))) (id⊢ 𝓤 _) $ await ! tt $ pick ! (λ t.
-        split ! $ move ! (1 ∷ []) $ use1 W (raw (fact 𝓤 (now t ≡ part-of r))) (shown-said r t) $ heard ! (now t ≡ part-of r) (λ e′. split ! $ move ! (1 ∷ []) $
+        calls-at ! fm (Shown 𝓤 H A mem run) known-shown (to-shown r u)
+        (and-then ! (load ! (from ! (stop !)) (look ! 2 refl)) (no-more !)) (λ u′.
+        use1 W (later (some (λ (t : RefT (List ℕ)). ((‵ (flft κ q) ⊛ ‵ ftrue) ⊛ ‵ (Slice .own t (u′ ∷ []))) ⊛ raw
+        (ensured 𝓤 H A shown.ended (shown.clauses 𝓤 H A mem run) κs (r, tt) tt t)))) (id⊢ 𝓤 _) $ await ! tt $
+        pick ! (λ t.
+        split ! $ move ! (1 ∷ []) $ use1 W (raw (fact 𝓤 (now t ≡ part-of r))) (shown-said r t) $ heard !
+        (now t ≡ part-of r) (λ e′. split ! $ move ! (1 ∷ []) $
         -- [the result; the token; what s owns; _4; …; _3; …; _2; …; _1; …; room for _0; …]
         peeks ! Slice (Is Slice) (shows 𝓤 H A Slice) t (u′ ∷ []) (λ is′.
         land ! (from ! (stop !)) (init ! 11 refl (shr-slice-lawful 𝓤 H A W (named 0) κ u8 .typed t _ is′ .0)) $
-        returns ! (look ! 11 refl) $ forget ! 3 refl $ forget ! 5 refl $ forget ! 7 refl $ forget ! 9 refl $ forget ! 11 refl $
-        move ! (11 ∷ 12 ∷ []) $ free1 ! $ move ! (9 ∷ 10 ∷ []) $ free1 ! $ move ! (7 ∷ 8 ∷ []) $ free1 ! $ move ! (5 ∷ 6 ∷ []) $ free1 ! $ move ! (3 ∷ 4 ∷ []) $ free1 ! $ free0 ! $ by ! (exits t u′ (e′ ∙ same r e)))))))))))))))
+        returns ! (look ! 11 refl) $ forget ! 3 refl $ forget ! 5 refl $ forget ! 7 refl $ forget ! 9 refl $ forget !
+        11 refl $
+        move ! (11 ∷ 12 ∷ []) $ free1 ! $ move ! (9 ∷ 10 ∷ []) $ free1 ! $ move ! (7 ∷ 8 ∷ []) $ free1 ! $ move !
+        (5 ∷ 6 ∷ []) $ free1 ! $ move ! (3 ∷ 4 ∷ []) $ free1 ! $ free0 ! $ by !
+        (exits t u′ (e′ ∙ same r e)))))))))))))))
 
-module _ {M : Type 1} (𝓤 : URA M) (H : Heap 𝓤) (A : Atoms 𝓤) (W : Given 𝓤 H A) (mem : Memory → SProp 𝓤) (run : Routine → Fun 𝓤) where
-  data-of-walks : (C : Calls 𝓤 H) (Λ : Loops 𝓤 H) → FmC 𝓤 H (W .laws) C → Triple 𝓤 (C #view·new) (New 𝓤 H A mem run) → Triple 𝓤 (C #view·shown) (Shown 𝓤 H A mem run)
+module _ {M : Type 1} (𝓤 : URA M) (H : Heap 𝓤) (A : Atoms 𝓤) (W : Given 𝓤 H A) (mem : Memory → SProp 𝓤)
+    (run : Routine → Fun 𝓤) where
+  data-of-walks : (C : Calls 𝓤 H) (Λ : Loops 𝓤 H) → FmC 𝓤 H (W .laws) C → Triple 𝓤 (C #view·new) (New 𝓤 H A mem run)
+      → Triple 𝓤 (C #view·shown) (Shown 𝓤 H A mem run)
       → Walks 𝓤 H A data-of.ended stayed (WpFn 𝓤 H C Λ code.function) (data-of.clauses 𝓤 H A mem run)
-  data-of-walks C Λ fm known-new known-shown = walked 𝓤 H A data-of.ended stayed (data-of.clauses 𝓤 H A mem run) (WpFn 𝓤 H C Λ code.function) (λ κs. (slice-vals, (uint-vals w64, (uint-vals w64, tt)))) (λ κs. (shr-slice-tells (named 0) (κs .0) u8, (uint-tells w64, (uint-tells w64, tt))))
-      (λ κs qs bounds a g are. via 𝓤 _ (fst∗ 𝓤 _ (emp 𝓤)) (walk 𝓤 H A W mem run (κs .0) (qs .0) (a .0) (a .1 .0) (are .1 .0 .1) (a .1 .1 .0) (are .1 .1 .0 .1) C Λ fm known-new known-shown (are .0)))
+  data-of-walks C Λ fm known-new known-shown =
+      walked 𝓤 H A data-of.ended stayed (data-of.clauses 𝓤 H A mem run) (WpFn 𝓤 H C Λ code.function)
+      (λ κs. (slice-vals, (uint-vals w64, (uint-vals w64, tt))))
+      (λ κs. (shr-slice-tells (named 0) (κs .0) u8, (uint-tells w64, (uint-tells w64, tt))))
+      (λ κs qs bounds a g are. via 𝓤 _ (fst∗ 𝓤 _ (emp 𝓤))
+      (walk 𝓤 H A W mem run (κs .0) (qs .0) (a .0) (a .1 .0) (are .1 .0 .1) (a .1 .1 .0) (are .1 .1 .0 .1) C Λ fm
+      known-new known-shown (are .0)))
 
-data-of-meets : {M : Type 1} (𝓤 : URA M) (H : Heap 𝓤) (A : Atoms 𝓤) (W : Given 𝓤 H A) (mem : Memory → SProp 𝓤) (run : Routine → Fun 𝓤) (𝓣 : Tables 𝓤 H)
+data-of-meets : {M : Type 1} (𝓤 : URA M) (H : Heap 𝓤) (A : Atoms 𝓤) (W : Given 𝓤 H A) (mem : Memory → SProp 𝓤)
+    (run : Routine → Fun 𝓤) (𝓣 : Tables 𝓤 H)
     → Triple 𝓤 (𝓣 .C #view·new) (New 𝓤 H A mem run) → Triple 𝓤 (𝓣 .C #view·shown) (Shown 𝓤 H A mem run)
     → Meets 𝓤 H A data-of.signature (WpFn 𝓤 H (𝓣 .C) (𝓣 .Λ) code.function) (data-of.spec 𝓤 H A mem run)
-data-of-meets 𝓤 H A W mem run 𝓣 known-new known-shown = walk-meets 𝓤 H A data-of.ended stayed W
-    (goes-none-slice 𝓤 H A W 1 (0 ∷ []) tt (plain (λ _. u8)) yes, (goes-none 𝓤 H A W 1 (λ _. usize) yes (λ κs x f. refl), (goes-none 𝓤 H A W 1 (λ _. usize) yes (λ κs x f. refl), tt)))
+data-of-meets 𝓤 H A W mem run 𝓣 known-new known-shown = walk-meets 𝓤 H A data-of.ended stayed W (
+  goes-none-slice 𝓤 H A W 1 (0 ∷ []) tt (plain (λ _. u8)) yes,
+  (
+    goes-none 𝓤 H A W 1 (λ _. usize) yes (λ κs x f. refl),
+    (goes-none 𝓤 H A W 1 (λ _. usize) yes (λ κs x f. refl), tt),
+  ),
+)
     (data-of.clauses 𝓤 H A mem run) (WpFn 𝓤 H (𝓣 .C) (𝓣 .Λ) code.function) (WpFn-mono 𝓤 H (W .laws) 𝓣 code.function)
     (data-of-walks 𝓤 H A W mem run (𝓣 .C) (𝓣 .Λ) (fmOf 𝓤 H (W .laws) 𝓣) known-new known-shown)
 
@@ -195,5 +249,7 @@ data-of-spec 𝓤 H 𝓜 𝓖 𝓡 =
     entered 𝓤 H (tripleOf 𝓤 H (𝓖 .A) data-of.signature (data-of.spec 𝓤 H (𝓖 .A) (𝓜 .mem) (𝓡 .run)))
     (tables 𝓤 H 𝓜 𝓡 code.env .C) (tables 𝓤 H 𝓜 𝓡 code.env .Λ) #view·data-of code.function (code.unfolded 𝓤 H 𝓜 𝓡)
     (data-of-meets 𝓤 H (𝓖 .A) (givenOf 𝓤 H 𝓜 𝓖) (𝓜 .mem) (𝓡 .run) (tablesOf 𝓤 H 𝓜 (tables 𝓤 H 𝓜 𝓡 code.env))
-    (cited 𝓤 H (New 𝓤 H (𝓖 .A) (𝓜 .mem) (𝓡 .run)) 𝓜 𝓡 code.env #view·new new-def.routine code.calls-view·new (new-thm.met 𝓤 H 𝓜 𝓖 𝓡))
-    (cited 𝓤 H (Shown 𝓤 H (𝓖 .A) (𝓜 .mem) (𝓡 .run)) 𝓜 𝓡 code.env #view·shown shown-def.routine code.calls-view·shown (shown-thm.met 𝓤 H 𝓜 𝓖 𝓡)))
+    (cited 𝓤 H (New 𝓤 H (𝓖 .A) (𝓜 .mem) (𝓡 .run)) 𝓜 𝓡 code.env #view·new new-def.routine code.calls-view·new
+    (new-thm.met 𝓤 H 𝓜 𝓖 𝓡))
+    (cited 𝓤 H (Shown 𝓤 H (𝓖 .A) (𝓜 .mem) (𝓡 .run)) 𝓜 𝓡 code.env #view·shown shown-def.routine code.calls-view·shown
+    (shown-thm.met 𝓤 H 𝓜 𝓖 𝓡)))

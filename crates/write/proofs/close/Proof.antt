@@ -13,7 +13,8 @@ use Rattle.write.proofs.close.Tie as tie
 returns : tie.Need-returns
 unfolding closing
 returns c =
-    let a = c .before .before .before .before .args in
+    let start : tie.Start = search depth 0 in
+    let a = start .args in
     let e : a .at + a .n - a .at ≡ a .n = omega arith in
     cc (laid-two (a .out .now) (a .at + a .n) (c .fcs .result) ED (omega arith))
 

@@ -11,28 +11,40 @@ use Rattle.write.proofs.lay_body.Statement.{statement}
 use Rattle.write.proofs.lay_body.Tie as tie
 
 -- the three octets and the unit fit
-room : (s : tie.Start) → s .args .at + 3 + length (unit (s .args .h) (s .args .«data» .now)) ≤ length (s .args .out .now)
+room : (s : tie.Start)
+    → s .args .at + 3 + length (unit (s .args .h) (s .args .«data» .now)) ≤ length (s .args .out .now)
 room s = omega (arith, length-body (s .args .h) (s .args .«data» .now))
 
 slice-write-out : tie.Need-slice-write-out
-slice-write-out c = omega (arith, room (c .before .before .before))
+slice-write-out c =
+    let start : tie.Start = search depth 0 in
+    omega (arith, room start)
 
 slice-write-out-2 : tie.Need-slice-write-out-2
-slice-write-out-2 c = simp length-set (omega (arith, room (c .before .before .before .before)))
+slice-write-out-2 c =
+    let start : tie.Start = search depth 0 in
+    simp length-set (omega (arith, room start))
 
 slice-write-out-3 : tie.Need-slice-write-out-3
-slice-write-out-3 c = simp length-set (omega (arith, room (c .before .before .before .before)))
+slice-write-out-3 c =
+    let start : tie.Start = search depth 0 in
+    simp length-set (omega (arith, room start))
 
 lay-unit-requires : tie.Need-lay-unit-requires
-lay-unit-requires c κs = simp length-set (omega (arith, room (c .before .before .before .before .before)))
+lay-unit-requires c κs =
+    let start : tie.Start = search depth 0 in
+    simp length-set (omega (arith, room start))
 
 same-length : tie.Need-same-length
-same-length c = simp length-set at (c .before .before .lay-unit .kept .1 .1 .0)
+same-length c =
+    let after-lay-unit : tie.After-lay-unit = search depth 0 in
+    simp length-set at (after-lay-unit .lay-unit .kept .1 .1 .0)
 
 returns : tie.Need-returns
 unfolding body
 returns c =
-    let s = c .before .before .before .before .before .before .before .before in
+    let after-addressed : tie.After-addressed = search depth 0 in
+    let s : tie.Start = search depth 0 in
     cc (laid-three (s .args .out .now) (s .args .at) _ _ _ _ (omega (arith, room s)))
 
 pub lay-body-spec : {M : Type 1} → statement M

@@ -11,7 +11,10 @@ use Rattle.write.proofs.lay_extension.Tie as tie
 
 slice-write-out : tie.Need-slice-write-out
 unfolding extension
-slice-write-out c = omega (arith, rw (c .before .a .given .1) at (c .before .before .before .pre))
+slice-write-out c =
+    let after-a : tie.After-a = search depth 0 in
+    let start : tie.Start = search depth 0 in
+    omega (arith, rw (after-a .a .given .1) at (start .pre))
 
 returns : tie.Need-returns
 unfolding extension
@@ -21,11 +24,13 @@ returns c =
 returns-2 : tie.Need-returns-2
 unfolding extension
 returns-2 c =
-    let s = c .before .before .before in
-    let e = c .before .a .given .1 in
+    let after-a : tie.After-a = search depth 0 in
+    let s : tie.Start = search depth 0 in
+    let e = after-a .a .given .1 in
     rw e (lays-sets (s .args .out .now) (s .args .at) (_ ∷ []) 1 _ _ (rw e at (s .pre)) (omega arith) refl refl)
 
 pub lay-extension-spec : {M : Type 1} → statement M
 lay-extension-spec =
     tie.close
-    (tie.spec (λ c. search needs) (λ c. search needs) slice-write-out (λ c. search needs) returns (λ c. search needs) returns-2)
+    (tie.spec (λ c. search needs) (λ c. search needs) slice-write-out (λ c. search needs) returns (λ c. search needs)
+    returns-2)

@@ -13,14 +13,16 @@ use Rattle.write.proofs.lay_start.Tie as tie
 
 returns : tie.Need-returns
 returns c =
-    let l = c .before .args .out .now in
+    let start : tie.Start = search depth 0 in
+    let l = start .args .out .now in
     rw (pick-true (SD1 ∷ []) _ (same-true (c .if1 .taken)))
     (lays-sets l 0 (SD1 ∷ []) 4 _ _ (omega arith) (omega arith) refl refl)
 
 returns-2 : tie.Need-returns-2
 returns-2 c =
-    let l = c .before .args .out .now in
-    let n = c .before .args .n in
+    let start : tie.Start = search depth 0 in
+    let l = start .args .out .now in
+    let n = start .args .n in
     let u = SD2 ∷ (n ∷ (n ∷ (SD2 ∷ []))) in
     rw (pick-false _ u (same-false (c .if1 .left)))
     (lays-sets l 0 u 4 _ _ (omega arith) (omega arith) refl refl)

@@ -13,32 +13,39 @@ use Rattle.write.proofs.lay_unit.Tie as tie
 -- the three pieces fit
 room : (s : tie.Start)
     → let a = s .args in
-    a .at + (length (extension (a .h .to)) + (length (extension (a .h .from)) + length (a .«data» .now))) ≤ length (a .out .now)
+    a .at + (length (extension (a .h .to)) + (length (extension (a .h .from)) + length (a .«data» .now))) ≤ length
+    (a .out .now)
 room s = omega (arith, length-unit (s .args .h) (s .args .«data» .now))
 
 lay-extension-requires : tie.Need-lay-extension-requires
-lay-extension-requires c κs = omega (arith, room (c .before .before .before))
+lay-extension-requires c κs =
+    let start : tie.Start = search depth 0 in
+    omega (arith, room start)
 
 lay-extension-requires-2 : tie.Need-lay-extension-requires-2
 lay-extension-requires-2 c κs =
-    let p = c .before .before .before in
-    omega (arith, room (p .before .before .before .before), p .lay-extension .ensures .place)
+    let p : tie.After-lay-extension = search depth 0 in
+    let start : tie.Start = search depth 0 in
+    omega (arith, room start, p .lay-extension .ensures .place)
 
 lay-requires : tie.Need-lay-requires
 lay-requires c κs =
-    let q = c .before .before .before in
-    let p = q .before .before .before .before in
-    omega (arith, room (p .before .before .before .before), p .lay-extension .ensures .place, q .lay-extension2 .ensures .place)
+    let q : tie.After-lay-extension2 = search depth 0 in
+    let p : tie.After-lay-extension = search depth 0 in
+    let start : tie.Start = search depth 0 in
+    omega (arith, room start, p .lay-extension .ensures .place, q .lay-extension2 .ensures .place)
 
 returns : tie.Need-returns
 unfolding unit
 returns c =
-    let q = c .before .before .before .before .before .before in
-    let p = q .before .before .before .before in
-    let r = room (p .before .before .before .before) in
+    let after-lay : tie.After-lay = search depth 0 in
+    let q : tie.After-lay-extension2 = search depth 0 in
+    let p : tie.After-lay-extension = search depth 0 in
+    let start : tie.Start = search depth 0 in
+    let r = room start in
     let first = p .lay-extension .ensures in
     let second = q .lay-extension2 .ensures in
-    lays-then (omega arith) first (lays-then (omega (arith, first .place)) second (c .before .before .lay .ensures)) .left
+    lays-then (omega arith) first (lays-then (omega (arith, first .place)) second (after-lay .lay .ensures)) .left
 
 pub lay-unit-spec : {M : Type 1} → statement M
 lay-unit-spec =

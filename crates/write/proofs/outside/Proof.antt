@@ -11,7 +11,9 @@ returns c = rw (c .enum-told .given .1)
 
 returns-2 : tie.Need-returns-2
 unfolding outside
-returns-2 c = rw (c .before .before .a .given .1) (c .over .ensures)
+returns-2 c =
+    let after-a : tie.After-a = search depth 0 in
+    rw (after-a .a .given .1) (c .over .ensures)
 
 pub outside-spec : {M : Type 1} → statement M
 outside-spec = tie.close (tie.spec (λ c. search needs) (λ c. search needs) (λ c κs. search needs) returns returns-2)

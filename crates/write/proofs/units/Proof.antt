@@ -8,7 +8,8 @@ use Rattle.write.proofs.units.Tie as tie
 
 returns : tie.Need-returns
 returns c =
-    let a = c .before .before .before .args in
+    let start : tie.Start = search depth 0 in
+    let a = start .args in
     omega (arith, length-unit (a .h) (a .«data» .now))
 
 pub units-spec : {M : Type 1} → statement M

@@ -19,7 +19,9 @@ returns : tie.Need-returns
 returns c = short writes _ (omega arith)
 
 returns-2 : tie.Need-returns-2
-returns-2 c = wrote writes _ (omega arith) (laid-sets (c .before .args .out .now) 0 (SC ∷ []) (omega arith))
+returns-2 c =
+    let start : tie.Start = search depth 0 in
+    wrote writes _ (omega arith) (laid-sets (start .args .out .now) 0 (SC ∷ []) (omega arith))
 
 pub write-short-spec : {M : Type 1} → statement M
 write-short-spec = tie.close (tie.spec returns (λ c. search needs) (λ c. search needs) returns-2)

@@ -22,23 +22,27 @@ writes d s p q = record { writable = sym (unless-less _ p (unless-less _ q refl)
 returns : tie.Need-returns
 unfolding unwritable unwritableToken
 returns c =
-    let a = c .before .before .args in
+    let start : tie.Start = search depth 0 in
+    let a = start .args in
     unwritten (Token (a .destination) (a .source)) [] (search picks depth 20) (λ q. omega arith)
 
 returns-2 : tie.Need-returns-2
 unfolding unwritable unwritableToken
 returns-2 c =
-    let a = c .before .before .before .before .args in
+    let start : tie.Start = search depth 0 in
+    let a = start .args in
     unwritten (Token (a .destination) (a .source)) [] (search picks depth 20) (λ q. omega arith)
 
 returns-3 : tie.Need-returns-3
 returns-3 c =
-    let a = c .before .before .before .before .before .args in
+    let start : tie.Start = search depth 0 in
+    let a = start .args in
     short (writes (a .destination) (a .source) (omega arith) (omega arith)) _ (omega arith)
 
 returns-4 : tie.Need-returns-4
 returns-4 c =
-    let a = c .before .before .before .before .before .args in
+    let start : tie.Start = search depth 0 in
+    let a = start .args in
     let laid = laid-sets (a .out .now) 0 (SD4 ∷ (a .destination .0 ∷ (a .source .0 ∷ []))) (omega arith) in
     wrote (writes (a .destination) (a .source) (omega arith) (omega arith)) _ (omega arith) laid
 

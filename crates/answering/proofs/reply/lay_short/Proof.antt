@@ -1,4 +1,5 @@
--- `answering::reply::lay_short` meets its contract: the writer does not refuse a short acknowledgement. Assumes nothing.
+-- `answering::reply::lay_short` meets its contract: the writer does not refuse a short acknowledgement. Assumes
+-- nothing.
 use mathlib.Core.Path.{sym, _∙_}
 use Rattle.write.proofs.Laying.{laying-short, never, lays}
 use borrow.Author.Needs.{needs}

@@ -10,10 +10,10 @@ use Rattle.capture.proofs.line.addresses.Tie as tie
 returns : tie.Need-returns
 unfolding addresses
 returns c =
-    let at4 = c .before .before in
-    let at3 = at4 .before .before .before .before in
-    let at2 = at3 .before .before .before .before .before in
-    let start = at2 .before .before .before in
+    let at4 : tie.After-number2 = search depth 0 in
+    let at3 : tie.After-lay = search depth 0 in
+    let at2 : tie.After-number = search depth 0 in
+    let start : tie.Start = search depth 0 in
     lays-three (omega (arith, start .pre)) (at2 .number .ensures) (at3 .lay .ensures) (at4 .number2 .ensures)
 
 pub addresses-spec : {M : Type 1} → statement M

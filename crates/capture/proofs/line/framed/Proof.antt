@@ -12,15 +12,15 @@ use Rattle.capture.proofs.line.framed.Tie as tie
 returns : tie.Need-returns
 unfolding told
 returns c =
-    let at9 = c .before .before in
-    let at8 = at9 .before .before .before .before .before in
-    let at7 = at8 .before .before .before .before in
-    let at6 = at7 .before .before .before .before .before in
-    let at5 = at6 .before .before .before .before in
-    let at4 = at5 .before .before .before .before .before in
-    let at3 = at4 .before .before .before .before in
-    let at2 = at3 .before .before in
-    let start = at2 .before .before in
+    let at9 : tie.After-lay3 = search depth 0 in
+    let at8 : tie.After-number2 = search depth 0 in
+    let at7 : tie.After-lay2 = search depth 0 in
+    let at6 : tie.After-number = search depth 0 in
+    let at5 : tie.After-lay = search depth 0 in
+    let at4 : tie.After-addresses = search depth 0 in
+    let at3 : tie.After-kind = search depth 0 in
+    let at2 : tie.After-fc = search depth 0 in
+    let start : tie.Start = search depth 0 in
     let x1 = at3 .kind .ensures in
     let x2 = at4 .addresses .ensures in
     let x3 = at5 .lay .ensures in
@@ -34,7 +34,8 @@ returns c =
     let h4 = lays-room 10 h3 x3 in
     let h5 = lays-room 6 h4 x4 in
     let h6 = lays-room 5 h5 x5 in
-    lays-within 30 (omega arith) (lays-then h1 x1 (lays-then h2 x2 (lays-then h3 x3 (lays-then h4 x4 (lays-then h5 x5 (lays-then h6 x6 x7))))))
+    lays-within 30 (omega arith)
+    (lays-then h1 x1 (lays-then h2 x2 (lays-then h3 x3 (lays-then h4 x4 (lays-then h5 x5 (lays-then h6 x6 x7))))))
 
 pub framed-spec : {M : Type 1} → statement M
 framed-spec =

@@ -9,12 +9,17 @@ use Rattle.capture.proofs.line.kind.Tie as tie
 
 returns : tie.Need-returns
 unfolding kind
-returns c = rw (c .before .before .before .before .before .enum-told .given .1) (c .before .before .lay .ensures)
+returns c =
+    let after-lay : tie.After-lay = search depth 0 in
+    let after-enum-told : tie.After-enum-told = search depth 0 in
+    rw (after-enum-told .enum-told .given .1) (after-lay .lay .ensures)
 
 returns-2 : tie.Need-returns-2
 unfolding kind
 returns-2 c =
-    rw (c .before .before .before .before .before .enum-told2 .given .1) (lays-within 9 (omega arith) (c .before .before .lay2 .ensures))
+    let after-lay2 : tie.After-lay2 = search depth 0 in
+    let after-enum-told2 : tie.After-enum-told2 = search depth 0 in
+    rw (after-enum-told2 .enum-told2 .given .1) (lays-within 9 (omega arith) (after-lay2 .lay2 .ensures))
 
 pub kind-spec : {M : Type 1} → statement M
 kind-spec =

@@ -12,9 +12,9 @@ use Rattle.capture.proofs.line.line.Tie as tie
 returns : tie.Need-returns
 unfolding line
 returns c =
-    let at3 = c .before .before in
-    let at2 = at3 .before .before .before .before in
-    let start = at2 .before .before .before .before in
+    let at3 : tie.After-answered = search depth 0 in
+    let at2 : tie.After-number = search depth 0 in
+    let start : tie.Start = search depth 0 in
     let x1 = at2 .number .ensures in
     let x2 = at3 .answered .ensures in
     let h1 : start .args .at + (4 + 30) ≤ length (start .args .out .now) = omega (arith, start .pre) in

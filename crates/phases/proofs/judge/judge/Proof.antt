@@ -10,11 +10,15 @@ returns c = cc
 
 returns-2 : tie.Need-returns-2
 unfolding judged
-returns-2 c = rw (c .before .enum-told2 .given .1) (c .judge-short .ensures)
+returns-2 c =
+    let after-enum-told2 : tie.After-enum-told2 = search depth 0 in
+    rw (after-enum-told2 .enum-told2 .given .1) (c .judge-short .ensures)
 
 returns-3 : tie.Need-returns-3
 unfolding judged
-returns-3 c = rw (c .before .before .f .given .1) (c .judge-frame .ensures)
+returns-3 c =
+    let after-f : tie.After-f = search depth 0 in
+    rw (after-f .f .given .1) (c .judge-frame .ensures)
 
 pub judge-spec : {M : Type 1} → statement M
 judge-spec =

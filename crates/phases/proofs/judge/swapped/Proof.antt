@@ -8,21 +8,27 @@ use Rattle.phases.proofs.judge.swapped.Tie as tie
 
 returns : tie.Need-returns
 unfolding swapped
-returns c = rw (← c .before .before .point-of .ensures) (unless-same _ (c .if1 .taken) refl)
+returns c =
+    let after-point-of : tie.After-point-of = search depth 0 in
+    rw (← after-point-of .point-of .ensures) (unless-same _ (c .if1 .taken) refl)
 
 returns-2 : tie.Need-returns-2
 unfolding swapped
 returns-2 c =
-    let b = c .before .before in
-    rw (← b .before .before .before .point-of .ensures, ← b .point-of2 .ensures)
-    (if-same _ (b .before .if1 .left) (unless-same _ (c .if2 .taken) refl))
+    let b : tie.After-point-of2 = search depth 0 in
+    let else1 : tie.Else1 = search depth 0 in
+    let after-point-of : tie.After-point-of = search depth 0 in
+    rw (← after-point-of .point-of .ensures, ← b .point-of2 .ensures)
+    (if-same _ (else1 .if1 .left) (unless-same _ (c .if2 .taken) refl))
 
 returns-3 : tie.Need-returns-3
 unfolding swapped
 returns-3 c =
-    let b = c .before .before in
-    rw (← b .before .before .before .point-of .ensures, ← b .point-of2 .ensures)
-    (if-same _ (b .before .if1 .left) (if-same _ (c .if2 .left) refl))
+    let b : tie.After-point-of2 = search depth 0 in
+    let else1 : tie.Else1 = search depth 0 in
+    let after-point-of : tie.After-point-of = search depth 0 in
+    rw (← after-point-of .point-of .ensures, ← b .point-of2 .ensures)
+    (if-same _ (else1 .if1 .left) (if-same _ (c .if2 .left) refl))
 
 pub swapped-spec : {M : Type 1} → statement M
 swapped-spec =

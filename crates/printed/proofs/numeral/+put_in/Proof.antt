@@ -1,4 +1,5 @@
--- `printed::numeral::put_in` meets its contract, by recursion on the digits still allowed, whose count falls. Assumes nothing.
+-- `printed::numeral::put_in` meets its contract, by recursion on the digits still allowed, whose count falls. Assumes
+-- nothing.
 use mathlib.Core.Path.{refl}
 use native.Mathlib.Omega.{arith}
 use lib.ListN.{length-set}
@@ -24,24 +25,38 @@ put-in-below t = and 1 put-in-kinds.ps (falls 1 put-in-kinds.ps _<_ μ-put-in t)
 
 put-in-returns : (t : ℕ) → put-in-lts.Need-returns (put-in-below t, put-in.Post) (put-in-at t) put-in.Post
 put-in-returns t c =
-    let a = c .before .before .args in
+    let start : put-in-lts.Start (put-in-below t, put-in.Post) (put-in-at t) put-in.Post = search depth 0 in
+    let a = start .args in
     lays-none (a .out .now) (a .at) (a .most) (a .n) (c .if1 .taken)
 
 put-in-returns-2 : (t : ℕ) → put-in-lts.Need-returns-2 (put-in-below t, put-in.Post) (put-in-at t) put-in.Post
 put-in-returns-2 t c =
-    let a = c .before .before .before .args in
-    lays-one (a .out .now) (a .at) (a .most) (a .n) (omega arith) (c .before .if1 .left) (c .if2 .taken)
+    let else1 : put-in-lts.Else1 (put-in-below t, put-in.Post) (put-in-at t) put-in.Post = search depth 0 in
+    let start : put-in-lts.Start (put-in-below t, put-in.Post) (put-in-at t) put-in.Post = search depth 0 in
+    let a = start .args in
+    lays-one (a .out .now) (a .at) (a .most) (a .n) (omega arith) (else1 .if1 .left) (c .if2 .taken)
 
-put-in-put-in-requires : (t : ℕ) → put-in-lts.Need-put-in-requires (put-in-below t, put-in.Post) (put-in-at t) put-in.Post
+put-in-put-in-requires : (t : ℕ)
+    → put-in-lts.Need-put-in-requires (put-in-below t, put-in.Post) (put-in-at t) put-in.Post
 put-in-put-in-requires t c κs = (omega arith, omega arith)
 
-put-in-slice-write-out-2 : (t : ℕ) → put-in-lts.Need-slice-write-out-2 (put-in-below t, put-in.Post) (put-in-at t) put-in.Post
-put-in-slice-write-out-2 t c = omega (arith, lays-room 1 (omega arith) (c .before .before .put-in .ensures))
+put-in-slice-write-out-2 : (t : ℕ)
+    → put-in-lts.Need-slice-write-out-2 (put-in-below t, put-in.Post) (put-in-at t) put-in.Post
+put-in-slice-write-out-2 t c =
+    let after-put-in : put-in-lts.After-put-in (put-in-below t, put-in.Post) (put-in-at t) put-in.Post = search depth
+    0 in
+    omega (arith, lays-room 1 (omega arith) (after-put-in .put-in .ensures))
 
 put-in-returns-3 : (t : ℕ) → put-in-lts.Need-returns-3 (put-in-below t, put-in.Post) (put-in-at t) put-in.Post
 put-in-returns-3 t c =
-    let a = c .before .before .before .before .before .before .before .args in
-    lays-last (a .out .now) (a .at) (a .most) (a .n) _ _ (omega arith) (c .before .before .before .before .before .if1 .left) (c .before .before .before .before .if2 .left) (c .before .before .put-in .ensures)
+    let after-put-in : put-in-lts.After-put-in (put-in-below t, put-in.Post) (put-in-at t) put-in.Post = search depth
+    0 in
+    let else2 : put-in-lts.Else2 (put-in-below t, put-in.Post) (put-in-at t) put-in.Post = search depth 0 in
+    let else1 : put-in-lts.Else1 (put-in-below t, put-in.Post) (put-in-at t) put-in.Post = search depth 0 in
+    let start : put-in-lts.Start (put-in-below t, put-in.Post) (put-in-at t) put-in.Post = search depth 0 in
+    let a = start .args in
+    lays-last (a .out .now) (a .at) (a .most) (a .n) _ _ (omega arith) (else1 .if1 .left) (else2 .if2 .left)
+    (after-put-in .put-in .ensures)
 
 pub +put-in-spec : {M : Type 1} → statement M
 +put-in-spec =

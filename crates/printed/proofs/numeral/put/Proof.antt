@@ -7,7 +7,9 @@ use Rattle.printed.specs.Numeral.{numeral}
 
 returns : tie.Need-returns
 unfolding numeral
-returns c = c .before .before .put-in .ensures
+returns c =
+    let after-put-in : tie.After-put-in = search depth 0 in
+    after-put-in .put-in .ensures
 
 pub put-spec : {M : Type 1} → statement M
 put-spec = tie.close (tie.spec (λ c κs. search needs) (λ c. search needs) returns)

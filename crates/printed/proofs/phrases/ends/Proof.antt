@@ -12,16 +12,17 @@ use Rattle.printed.specs.Printed.{ends}
 returns : tie.Need-returns
 unfolding ends
 returns c =
-    let at5 = c .before .before in
-    let at4 = at5 .before .before .before .before in
-    let at3 = at4 .before .before .before .before in
-    let at2 = at3 .before .before .before .before in
-    let start = at2 .before .before .before in
+    let at5 : tie.After-point2 = search depth 0 in
+    let at4 : tie.After-point = search depth 0 in
+    let at3 : tie.After-number2 = search depth 0 in
+    let at2 : tie.After-number = search depth 0 in
+    let start : tie.Start = search depth 0 in
     let a = start .args in
     let h1 : a .at + (4 + 12) ≤ length (a .out .now) = omega arith in
     let h2 = lays-room 12 h1 (at2 .number .ensures) in
     let h3 = lays-room 8 h2 (at3 .number2 .ensures) in
-    lays-then h1 (at2 .number .ensures) (lays-then h2 (at3 .number2 .ensures) (lays-then h3 (at4 .point .ensures) (at5 .point2 .ensures)))
+    lays-then h1 (at2 .number .ensures)
+    (lays-then h2 (at3 .number2 .ensures) (lays-then h3 (at4 .point .ensures) (at5 .point2 .ensures)))
 
 pub ends-spec : {M : Type 1} → statement M
 ends-spec =

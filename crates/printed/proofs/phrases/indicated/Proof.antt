@@ -9,7 +9,12 @@ use Rattle.printed.specs.Printed.{indicating}
 returns : tie.Need-returns
 unfolding indicating dataOf
 returns c =
-    rw (c .before .before .before .before .before .before .fc .ensures .0, c .before .before .before .before .before .point-of .ensures, c .before .before .before .before .point-of2 .ensures) at (c .before .before .request .ensures)
+    let after-request : tie.After-request = search depth 0 in
+    let after-point-of2 : tie.After-point-of2 = search depth 0 in
+    let after-point-of : tie.After-point-of = search depth 0 in
+    let after-fc : tie.After-fc = search depth 0 in
+    rw (after-fc .fc .ensures .0, after-point-of .point-of .ensures, after-point-of2 .point-of2 .ensures) at
+    (after-request .request .ensures)
 
 pub indicated-spec : {M : Type 1} → statement M
 indicated-spec =

@@ -9,12 +9,17 @@ use Rattle.printed.proofs.phrases.Steps.{lays-nothing}
 returns : tie.Need-returns
 unfolding indicating
 returns c =
-    let a = c .before .before .before .before .args in
+    let start : tie.Start = search depth 0 in
+    let a = start .args in
     rw (c .enum-told .given .1) (lays-nothing (a .out .now) (a .at) _)
 
 returns-2 : tie.Need-returns-2
-returns-2 c = rw (c .before .before .before .before .before .i .given .1) (c .before .before .indicated .ensures)
+returns-2 c =
+    let after-indicated : tie.After-indicated = search depth 0 in
+    let after-i : tie.After-i = search depth 0 in
+    rw (after-i .i .given .1) (after-indicated .indicated .ensures)
 
 pub indicating-spec : {M : Type 1} → statement M
 indicating-spec =
-    tie.close (tie.spec (λ c. search needs) (λ c. search needs) (λ c κs. search needs) returns (λ c. search needs) returns-2)
+    tie.close
+    (tie.spec (λ c. search needs) (λ c. search needs) (λ c κs. search needs) returns (λ c. search needs) returns-2)

@@ -10,18 +10,22 @@ use Rattle.printed.proofs.phrases.Steps.{part-count}
 
 lay-requires-2 : tie.Need-lay-requires-2
 lay-requires-2 c κs =
-    let w = c .before .before .before .before .before .before .before .before .before .args .t1 in
-    let h = lays-room (getD w 0 0) (omega arith) (c .before .before .before .before .before .lay .ensures) in
-    rw (c .before .part .ensures) (omega (arith, part-count w 1 (getD w 0 0)))
+    let after-part : tie.After-part = search depth 0 in
+    let after-lay : tie.After-lay = search depth 0 in
+    let at-start : tie.Start = search depth 0 in
+    let w = at-start .args .t1 in
+    let h = lays-room (getD w 0 0) (omega arith) (after-lay .lay .ensures) in
+    rw (after-part .part .ensures) (omega (arith, part-count w 1 (getD w 0 0)))
 
 returns : tie.Need-returns
 returns c =
-    let at4 = c .before .before in
-    let at3 = at4 .before .before in
-    let at2 = at3 .before .before .before .before in
-    let start = at2 .before .before .before .before in
+    let at4 : tie.After-lay2 = search depth 0 in
+    let at3 : tie.After-part = search depth 0 in
+    let at2 : tie.After-lay = search depth 0 in
+    let start : tie.Start = search depth 0 in
     let w = start .args .t1 in
-    lays-then (omega arith) (at2 .lay .ensures) (lays-within (getD w 0 0) (part-count w 1 (getD w 0 0)) (rw (at3 .part .ensures) at (at4 .lay2 .ensures)))
+    lays-then (omega arith) (at2 .lay .ensures)
+    (lays-within (getD w 0 0) (part-count w 1 (getD w 0 0)) (rw (at3 .part .ensures) at (at4 .lay2 .ensures)))
 
 pub lay-word-spec : {M : Type 1} → statement M
 lay-word-spec =

@@ -7,7 +7,10 @@ use native.Mathlib.Omega.{arith}
 use Rattle.laid.proofs.Laws.{lays-then}
 
 returns : tie.Need-returns
-returns c = lays-then (omega arith) (c .before .before .before .before .before .before .lay .ensures) (c .before .before .octet .ensures)
+returns c =
+    let after-octet : tie.After-octet = search depth 0 in
+    let after-lay : tie.After-lay = search depth 0 in
+    lays-then (omega arith) (after-lay .lay .ensures) (after-octet .octet .ensures)
 
 pub number-spec : {M : Type 1} → statement M
 number-spec =

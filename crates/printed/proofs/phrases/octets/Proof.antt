@@ -11,12 +11,21 @@ use Rattle.laid.proofs.Laws.{lays-room, lays-then, lays-within}
 
 put-octets-requires : tie.Need-put-octets-requires
 put-octets-requires c κs =
-    let a = c .before .before .before .before .before .before .before .before .before .args in
-    rw (c .before .part .ensures) (lays-room (2 * length (part (a .s .now) (a .start) (a .count)) + 1) (omega arith) (c .before .before .before .before .lay .ensures))
+    let after-part : tie.After-part = search depth 0 in
+    let after-lay : tie.After-lay = search depth 0 in
+    let at-start : tie.Start = search depth 0 in
+    let a = at-start .args in
+    rw (after-part .part .ensures)
+    (lays-room (2 * length (part (a .s .now) (a .start) (a .count)) + 1) (omega arith) (after-lay .lay .ensures))
 
 returns : tie.Need-returns
 returns c =
-    lays-within _ (omega arith) (lays-then (omega arith) (c .before .before .before .before .before .before .before .lay .ensures) (rw (c .before .before .before .before .part .ensures) at (c .before .before .put-octets .ensures)))
+    let after-put-octets : tie.After-put-octets = search depth 0 in
+    let after-part : tie.After-part = search depth 0 in
+    let after-lay : tie.After-lay = search depth 0 in
+    lays-within _ (omega arith)
+    (lays-then (omega arith) (after-lay .lay .ensures)
+    (rw (after-part .part .ensures) at (after-put-octets .put-octets .ensures)))
 
 pub octets-spec : {M : Type 1} → statement M
 octets-spec =

@@ -13,12 +13,20 @@ use Rattle.printed.specs.Printed.{pointWord, w-none}
 returns : tie.Need-returns
 unfolding pointWord
 returns c =
-    rw (same-true (c .before .before .before .before .before .if1 .taken), pick-true w-none (numeral (c .before .before .before .before .before .before .before .args .n)) refl) (lays-within 4 (omega arith) (c .before .before .lay .ensures))
+    let after-lay : tie.After-lay = search depth 0 in
+    let then1 : tie.Then1 = search depth 0 in
+    let start : tie.Start = search depth 0 in
+    rw (same-true (then1 .if1 .taken), pick-true w-none (numeral (start .args .n)) refl)
+    (lays-within 4 (omega arith) (after-lay .lay .ensures))
 
 returns-2 : tie.Need-returns-2
 unfolding pointWord
 returns-2 c =
-    rw (same-false (c .before .before .before .before .if1 .left), pick-false w-none (numeral (c .before .before .before .before .before .before .args .n)) refl) (c .before .before .number .ensures)
+    let after-number : tie.After-number = search depth 0 in
+    let else1 : tie.Else1 = search depth 0 in
+    let start : tie.Start = search depth 0 in
+    rw (same-false (else1 .if1 .left), pick-false w-none (numeral (start .args .n)) refl)
+    (after-number .number .ensures)
 
 pub point-spec : {M : Type 1} → statement M
 point-spec =

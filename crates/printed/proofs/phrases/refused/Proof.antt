@@ -10,10 +10,11 @@ use Rattle.printed.specs.Printed.{refusedLine}
 returns : tie.Need-returns
 unfolding refusedLine
 returns c =
-    let at3 = c .before .before in
-    let at2 = at3 .before .before .before .before .before in
-    let start = at2 .before .before .before .before in
-    lays-within 19 (omega arith) (lays-three (omega arith) (start .lay .ensures) (at2 .number .ensures) (at3 .lay2 .ensures))
+    let at3 : tie.After-lay2 = search depth 0 in
+    let at2 : tie.After-number = search depth 0 in
+    let start : tie.After-lay = search depth 0 in
+    lays-within 19 (omega arith)
+    (lays-three (omega arith) (start .lay .ensures) (at2 .number .ensures) (at3 .lay2 .ensures))
 
 pub refused-spec : {M : Type 1} → statement M
 refused-spec =

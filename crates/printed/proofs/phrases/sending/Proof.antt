@@ -18,25 +18,29 @@ use Rattle.printed.proofs.phrases.Steps.{lays-nothing}
 returns : tie.Need-returns
 unfolding sending
 returns c =
-    let a = c .before .before .before .args in
-    rw (same-true (c .if1 .taken), pick-true [] (w-send ++ (numeral (a .wait) ++ spaced (shown (a .x .now)))) refl) (lays-nothing (a .out .now) (a .at) _)
+    let at-start : tie.Start = search depth 0 in
+    let a = at-start .args in
+    rw (same-true (c .if1 .taken), pick-true [] (w-send ++ (numeral (a .wait) ++ spaced (shown (a .x .now)))) refl)
+    (lays-nothing (a .out .now) (a .at) _)
 
 returns-2 : tie.Need-returns-2
 unfolding sending
 returns-2 c =
-    let at6 = c .before .before in
-    let at5 = at6 .before .before .before .before in
-    let at4 = at5 .before .before .before .before .before in
-    let at3 = at4 .before .before .before .before in
-    let at2 = at3 .before .before .before in
-    let start = at2 .before .before .before in
+    let at6 : tie.After-put-octets = search depth 0 in
+    let at5 : tie.After-lay2 = search depth 0 in
+    let at4 : tie.After-put = search depth 0 in
+    let at3 : tie.After-lay = search depth 0 in
+    let at2 : tie.Else1 = search depth 0 in
+    let start : tie.Start = search depth 0 in
     let a = start .args in
     let n = 2 * length (a .x .now) + 1 in
     let h1 : a .at + (6 + (10 + (1 + n))) ≤ length (a .out .now) = omega arith in
     let h2 = lays-room (10 + (1 + n)) h1 (at3 .lay .ensures) in
     let h3 = lays-room (1 + n) h2 (at4 .put .ensures) in
     rw (same-false (at2 .if1 .left), pick-false [] (w-send ++ (numeral (a .wait) ++ spaced (shown (a .x .now)))) refl)
-    (lays-within _ (omega arith) (lays-then h1 (at3 .lay .ensures) (lays-then h2 (at4 .put .ensures) (lays-then h3 (at5 .lay2 .ensures) (at6 .put-octets .ensures)))))
+    (lays-within _ (omega arith)
+    (lays-then h1 (at3 .lay .ensures)
+    (lays-then h2 (at4 .put .ensures) (lays-then h3 (at5 .lay2 .ensures) (at6 .put-octets .ensures)))))
 
 pub sending-spec : {M : Type 1} → statement M
 sending-spec =

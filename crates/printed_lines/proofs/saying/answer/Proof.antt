@@ -10,18 +10,30 @@ use Rattle.laid.proofs.Laws.{lays-within}
 use Rattle.printed_lines.specs.Saying.{answerLine}
 
 refused-requires : tie.Need-refused-requires
-refused-requires c κs = omega (arith, c .before .before .before .before .before .pre .2)
+refused-requires c κs =
+    let start : tie.Start = search depth 0 in
+    omega (arith, start .pre .2)
 
 returns : tie.Need-returns
 unfolding answerLine pick
-returns c = rw (same-false (c .before .before .before .before .if1 .taken)) (lays-within 8192 (omega arith) (c .before .before .refused .ensures))
+returns c =
+    let after-refused : tie.After-refused = search depth 0 in
+    let then1 : tie.Then1 = search depth 0 in
+    rw (same-false (then1 .if1 .taken)) (lays-within 8192 (omega arith) (after-refused .refused .ensures))
 
 done-requires : tie.Need-done-requires
-done-requires c κs = omega (arith, c .before .before .before .before .before .pre .0, c .before .before .before .before .before .pre .1, c .before .before .before .before .before .pre .2)
+done-requires c κs =
+    let start : tie.Start = search depth 0 in
+    omega (arith, start .pre .0, start .pre .1, start .pre .2)
 
 returns-2 : tie.Need-returns-2
 unfolding answerLine pick
-returns-2 c = rw (same-true (c .before .before .before .before .if1 .left)) (lays-within 8192 (omega (arith, c .before .before .before .before .before .before .before .before .pre .0, c .before .before .before .before .before .before .before .before .pre .1)) (c .before .before .done .ensures))
+returns-2 c =
+    let after-done : tie.After-done = search depth 0 in
+    let else1 : tie.Else1 = search depth 0 in
+    let start : tie.Start = search depth 0 in
+    rw (same-true (else1 .if1 .left))
+    (lays-within 8192 (omega (arith, start .pre .0, start .pre .1)) (after-done .done .ensures))
 
 pub answer-spec : {M : Type 1} → statement M
 answer-spec =

@@ -8,10 +8,24 @@ use native.Mathlib.Omega.{arith}
 use lib.ListN.{length, length-take}
 
 answer-requires : tie.Need-answer-requires
-answer-requires c κs = (omega (arith, c .before .before .before .before .before .before .pre .0, ap length (c .before .part .ensures), length-take (c .before .before .before .before .before .before .args .a .length) (c .before .before .before .before .before .before .args .out .now)), c .before .before .before .before .before .before .pre .1, c .before .before .before .before .before .before .pre .2)
+answer-requires c κs =
+    let after-part : tie.After-part = search depth 0 in
+    let start : tie.Start = search depth 0 in (
+      omega (
+        arith,
+        start .pre .0,
+        ap length (after-part .part .ensures),
+        length-take (start .args .a .length) (start .args .out .now),
+      ),
+      start .pre .1,
+      start .pre .2,
+    )
 
 returns : tie.Need-returns
-returns c = (refl, rw (c .before .before .before .before .part .ensures) at (c .before .before .answer .ensures))
+returns c =
+    let after-answer : tie.After-answer = search depth 0 in
+    let after-part : tie.After-part = search depth 0 in
+    (refl, rw (after-part .part .ensures) at (after-answer .answer .ensures))
 
 pub told-spec : {M : Type 1} → statement M
 told-spec = tie.close (tie.spec (λ c κs. search needs) answer-requires (λ c. search needs) returns)

@@ -7,7 +7,9 @@ use Rattle.printed.specs.Printed.{collectedLine}
 
 returns : tie.Need-returns
 unfolding collectedLine
-returns c = c .before .before .row .ensures
+returns c =
+    let after-row : tie.After-row = search depth 0 in
+    after-row .row .ensures
 
 pub collected-spec : {M : Type 1} → statement M
 collected-spec = tie.close (tie.spec (λ c κs. search needs) (λ c. search needs) returns)

@@ -7,7 +7,10 @@ use native.Mathlib.Omega.{arith}
 use Rattle.laid.proofs.Laws.{lays-then}
 
 returns : tie.Need-returns
-returns c = lays-then (omega arith) (c .before .before .before .before .before .before .number .ensures) (c .before .before .number2 .ensures)
+returns c =
+    let after-number2 : tie.After-number2 = search depth 0 in
+    let after-number : tie.After-number = search depth 0 in
+    lays-then (omega arith) (after-number .number .ensures) (after-number2 .number2 .ensures)
 
 pub counts-spec : {M : Type 1} → statement M
 counts-spec = tie.close (tie.spec (λ c κs. search needs) (λ c κs. search needs) (λ c. search needs) returns)

@@ -12,38 +12,42 @@ use Rattle.printed.proofs.phrases.Steps.{part-count}
 
 octets-requires : tie.Need-octets-requires
 octets-requires c κs =
-    let at3 = c .before .before .before in
-    let at2 = at3 .before .before .before .before in
-    let start = at2 .before .before .before .before in
+    let at3 : tie.After-number = search depth 0 in
+    let at2 : tie.After-status = search depth 0 in
+    let start : tie.Start = search depth 0 in
     let a = start .args in
     let h = lays-room 513 (lays-room 517 (omega arith) (at2 .status .ensures)) (at3 .number .ensures) in
     omega (arith, part-count (a .area .now) (246 * a .place) (a .size))
 
 lay-requires : tie.Need-lay-requires
 lay-requires c κs =
-    let at4 = c .before .before .before .before in
-    let at3 = at4 .before .before .before .before in
-    let at2 = at3 .before .before .before .before in
-    let start = at2 .before .before .before .before in
+    let at4 : tie.After-octets = search depth 0 in
+    let at3 : tie.After-number = search depth 0 in
+    let at2 : tie.After-status = search depth 0 in
+    let start : tie.Start = search depth 0 in
     let a = start .args in
     let n = 2 * length (part (a .area .now) (246 * a .place) (a .size)) + 2 in
     let m = part-count (a .area .now) (246 * a .place) (a .size) in
-    lays-room 1 (lays-room (n + 1) (lays-room (4 + (n + 1)) (omega (arith, m)) (at2 .status .ensures)) (at3 .number .ensures)) (at4 .octets .ensures)
+    lays-room 1
+    (lays-room (n + 1) (lays-room (4 + (n + 1)) (omega (arith, m)) (at2 .status .ensures)) (at3 .number .ensures))
+    (at4 .octets .ensures)
 
 returns : tie.Need-returns
 returns c =
-    let at5 = c .before .before in
-    let at4 = at5 .before .before .before .before .before in
-    let at3 = at4 .before .before .before .before in
-    let at2 = at3 .before .before .before .before in
-    let start = at2 .before .before .before .before in
+    let at5 : tie.After-lay = search depth 0 in
+    let at4 : tie.After-octets = search depth 0 in
+    let at3 : tie.After-number = search depth 0 in
+    let at2 : tie.After-status = search depth 0 in
+    let start : tie.Start = search depth 0 in
     let a = start .args in
     let n = 2 * length (part (a .area .now) (246 * a .place) (a .size)) + 2 in
     let m = part-count (a .area .now) (246 * a .place) (a .size) in
     let h1 : a .at + (4 + (4 + (n + 1))) ≤ length (a .out .now) = omega (arith, m) in
     let h2 = lays-room (4 + (n + 1)) h1 (at2 .status .ensures) in
     let h3 = lays-room (n + 1) h2 (at3 .number .ensures) in
-    lays-within _ (omega (arith, m)) (lays-then h1 (at2 .status .ensures) (lays-then h2 (at3 .number .ensures) (lays-then h3 (at4 .octets .ensures) (at5 .lay .ensures))))
+    lays-within _ (omega (arith, m))
+    (lays-then h1 (at2 .status .ensures)
+    (lays-then h2 (at3 .number .ensures) (lays-then h3 (at4 .octets .ensures) (at5 .lay .ensures))))
 
 pub ending-spec : {M : Type 1} → statement M
 ending-spec =

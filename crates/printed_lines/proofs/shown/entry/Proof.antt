@@ -12,17 +12,22 @@ use Rattle.printed.specs.Printed.{comma}
 
 returns : tie.Need-returns
 returns c =
-    let a = c .before .before .before .before .before .before .args in
-    rw (pick-true (numeral (a .a)) (comma ++ numeral (a .a)) (c .before .before .before .before .if1 .taken)) (lays-within 4 (omega arith) (c .before .before .octet .ensures))
+    let after-octet : tie.After-octet = search depth 0 in
+    let then1 : tie.Then1 = search depth 0 in
+    let at-start : tie.Start = search depth 0 in
+    let a = at-start .args in
+    rw (pick-true (numeral (a .a)) (comma ++ numeral (a .a)) (then1 .if1 .taken))
+    (lays-within 4 (omega arith) (after-octet .octet .ensures))
 
 returns-2 : tie.Need-returns-2
 returns-2 c =
-    let at4 = c .before .before in
-    let at3 = at4 .before .before .before .before in
-    let at2 = at3 .before .before .before in
-    let start = at2 .before .before in
+    let at4 : tie.After-octet2 = search depth 0 in
+    let at3 : tie.After-lay = search depth 0 in
+    let at2 : tie.Else1 = search depth 0 in
+    let start : tie.Start = search depth 0 in
     let a = start .args in
-    rw (pick-false (numeral (a .a)) (comma ++ numeral (a .a)) (at2 .if1 .left)) (lays-then (omega arith) (at3 .lay .ensures) (at4 .octet2 .ensures))
+    rw (pick-false (numeral (a .a)) (comma ++ numeral (a .a)) (at2 .if1 .left))
+    (lays-then (omega arith) (at3 .lay .ensures) (at4 .octet2 .ensures))
 
 pub entry-spec : {M : Type 1} → statement M
 entry-spec =

@@ -10,18 +10,20 @@ use Rattle.laid.proofs.Laws.{lays-room, lays-then}
 
 returns : tie.Need-returns
 returns c =
-    let at6 = c .before .before in
-    let at5 = at6 .before .before .before .before .before in
-    let at4 = at5 .before .before .before .before in
-    let at3 = at4 .before .before .before .before in
-    let at2 = at3 .before .before .before .before in
-    let start = at2 .before .before .before .before in
+    let at6 : tie.After-lay2 = search depth 0 in
+    let at5 : tie.After-counts2 = search depth 0 in
+    let at4 : tie.After-counts = search depth 0 in
+    let at3 : tie.After-joined = search depth 0 in
+    let at2 : tie.After-lay = search depth 0 in
+    let start : tie.Start = search depth 0 in
     let a = start .args in
     let h1 : a .at + (1 + 525) ≤ length (a .out .now) = omega (arith, start .pre) in
     let h2 = lays-room 525 h1 (at2 .lay .ensures) in
     let h3 = lays-room 17 h2 (at3 .joined .ensures) in
     let h4 = lays-room 9 h3 (at4 .counts .ensures) in
-    lays-then h1 (at2 .lay .ensures) (lays-then h2 (at3 .joined .ensures) (lays-then h3 (at4 .counts .ensures) (lays-then h4 (at5 .counts2 .ensures) (at6 .lay2 .ensures))))
+    lays-then h1 (at2 .lay .ensures)
+    (lays-then h2 (at3 .joined .ensures)
+    (lays-then h3 (at4 .counts .ensures) (lays-then h4 (at5 .counts2 .ensures) (at6 .lay2 .ensures))))
 
 pub listed-spec : {M : Type 1} → statement M
 listed-spec =

@@ -7,7 +7,10 @@ use native.Mathlib.Omega.{arith}
 use Rattle.laid.proofs.Laws.{lays-within}
 
 returns : tie.Need-returns
-returns c = lays-within 8 (omega arith) (rw (c .before .before .before .before .phase-word .ensures .0) at (c .before .before .lay-word .ensures))
+returns c =
+    let after-lay-word : tie.After-lay-word = search depth 0 in
+    let after-phase-word : tie.After-phase-word = search depth 0 in
+    lays-within 8 (omega arith) (rw (after-phase-word .phase-word .ensures .0) at (after-lay-word .lay-word .ensures))
 
 pub phase-spec : {M : Type 1} → statement M
 phase-spec = tie.close (tie.spec (λ c κs. search needs) (λ c κs. search needs) (λ c. search needs) returns)

@@ -10,14 +10,14 @@ use Rattle.laid.proofs.Laws.{lays-room, lays-then, lays-within}
 
 returns : tie.Need-returns
 returns c =
-    let at8 = c .before .before in
-    let at7 = at8 .before .before .before .before in
-    let at6 = at7 .before .before .before .before in
-    let at5 = at6 .before .before .before .before in
-    let at4 = at5 .before .before .before .before in
-    let at3 = at4 .before .before .before .before in
-    let at2 = at3 .before .before .before .before in
-    let start = at2 .before .before .before .before .before in
+    let at8 : tie.After-ending = search depth 0 in
+    let at7 : tie.After-point2 = search depth 0 in
+    let at6 : tie.After-point = search depth 0 in
+    let at5 : tie.After-number2 = search depth 0 in
+    let at4 : tie.After-service = search depth 0 in
+    let at3 : tie.After-number = search depth 0 in
+    let at2 : tie.After-lay = search depth 0 in
+    let start : tie.Start = search depth 0 in
     let a = start .args in
     let h1 : a .at + (2 + 544) ≤ length (a .out .now) = omega (arith, start .pre) in
     let h2 = lays-room 544 h1 (at2 .lay .ensures) in
@@ -25,7 +25,13 @@ returns c =
     let h4 = lays-room 533 h3 (at4 .service .ensures) in
     let h5 = lays-room 529 h4 (at5 .number2 .ensures) in
     let h6 = lays-room 525 h5 (at6 .point .ensures) in
-    lays-within 600 (omega arith) (lays-then h1 (at2 .lay .ensures) (lays-then h2 (at3 .number .ensures) (lays-then h3 (at4 .service .ensures) (lays-then h4 (at5 .number2 .ensures) (lays-then h5 (at6 .point .ensures) (lays-then h6 (at7 .point2 .ensures) (at8 .ending .ensures)))))))
+    lays-within 600 (omega arith)
+    (lays-then h1 (at2 .lay .ensures)
+    (lays-then h2 (at3 .number .ensures)
+    (lays-then h3 (at4 .service .ensures)
+    (lays-then h4 (at5 .number2 .ensures)
+    (lays-then h5 (at6 .point .ensures)
+    (lays-then h6 (at7 .point2 .ensures) (at8 .ending .ensures)))))))
 
 pub row-spec : {M : Type 1} → statement M
 row-spec =

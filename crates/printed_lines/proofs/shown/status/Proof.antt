@@ -7,7 +7,10 @@ use native.Mathlib.Omega.{arith}
 use Rattle.laid.proofs.Laws.{lays-within}
 
 returns : tie.Need-returns
-returns c = lays-within 4 (omega arith) (rw (c .before .before .before .before .status-word .ensures .0) at (c .before .before .lay-word .ensures))
+returns c =
+    let after-lay-word : tie.After-lay-word = search depth 0 in
+    let after-status-word : tie.After-status-word = search depth 0 in
+    lays-within 4 (omega arith) (rw (after-status-word .status-word .ensures .0) at (after-lay-word .lay-word .ensures))
 
 pub status-spec : {M : Type 1} → statement M
 status-spec = tie.close (tie.spec (λ c κs. search needs) (λ c κs. search needs) (λ c. search needs) returns)

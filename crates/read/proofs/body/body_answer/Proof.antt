@@ -11,14 +11,20 @@ use Rattle.read.proofs.body.body_answer.Tie as tie
 
 returns : tie.Need-returns
 unfolding bodyAnswer answer
-returns c = unless-same _ (λ q. c .if1 .taken (c .before .body-refusal .ensures ∙ q)) (cc)
+returns c =
+    let after-body-refusal : tie.After-body-refusal = search depth 0 in
+    unless-same _ (λ q. c .if1 .taken (after-body-refusal .body-refusal .ensures ∙ q)) (cc)
 
 head-of-requires : tie.Need-head-of-requires
 head-of-requires c κs =
-    (data-within (c .before .before .before .before .before .before .args .b .now) (omega arith) (cc), cc)
+    let start : tie.Start = search depth 0 in
+    (data-within (start .args .b .now) (omega arith) (cc), cc)
 
 sub-t13 : tie.Need-sub-t13
-sub-t13 c = omega (arith, head-of-requires (c .before) (c .before .before .before .before .before .before .before .κs) .0)
+sub-t13 c =
+    let after-data-at : tie.After-data-at = search depth 0 in
+    let start : tie.Start = search depth 0 in
+    omega (arith, head-of-requires after-data-at (start .κs) .0)
 
 returns-2 : tie.Need-returns-2
 unfolding bodyAnswer answer

@@ -6,7 +6,9 @@ use Rattle.serve.proofs.exchange.read_mark.Statement.{statement}
 use Rattle.serve.proofs.exchange.read_mark.Tie as tie
 
 beyond : tie.Need-returns-2
-beyond c = sym (List·getD-eq-default (c .before .args .marks .now) 0 (c .if1 .left))
+beyond c =
+    let start : tie.Start = search depth 0 in
+    sym (List·getD-eq-default (start .args .marks .now) 0 (c .if1 .left))
 
 pub read-mark-spec : {M : Type 1} → statement M
 read-mark-spec = tie.close (tie.spec (λ c. search needs) (λ c. search needs) beyond)

@@ -23,17 +23,28 @@ returns-5 : tie.Need-returns-5
 returns-5 c = started-as _ _ _ _ _ _ (search (picks, asked) depth 20)
 
 fresh-requires : tie.Need-fresh-requires
-fresh-requires c κs = startable-ts _ _ _ (sym (c .before .before .before .before .before .before .before .unstartable .ensures) ∙ c .before .before .before .before .before .before .if1 .left)
+fresh-requires c κs =
+    let else1 : tie.Else1 = search depth 0 in
+    let after-unstartable : tie.After-unstartable = search depth 0 in
+    startable-ts _ _ _ (sym (after-unstartable .unstartable .ensures) ∙ else1 .if1 .left)
 
 returns-6 : tie.Need-returns-6
 returns-6 c =
+    let after-empty2 : tie.After-empty2 = search depth 0 in
+    let after-empty : tie.After-empty = search depth 0 in
+    let else5 : tie.Else5 = search depth 0 in
+    let else4 : tie.Else4 = search depth 0 in
+    let else3 : tie.Else3 = search depth 0 in
+    let else2 : tie.Else2 = search depth 0 in
+    let else1 : tie.Else1 = search depth 0 in
+    let after-unstartable : tie.After-unstartable = search depth 0 in
     started-as _ _ _ _ _ _
-    (asked-false _ (c .before .before .before .before .before .before .before .before .unstartable .ensures) (c .before .before .before .before .before .before .before .if1 .left)
-    (unless-same _ (c .before .before .before .before .before .before .if2 .left)
-    (unless-less _ (c .before .before .before .before .before .if3 .left)
-    (unless-same _ (c .before .before .before .before .if4 .left)
-    (unless-less _ (c .before .before .before .if5 .left)
-    (started-fresh _ _ _ _ _ _ (c .before .before .empty .ensures) (c .before .empty2 .ensures) (c .fresh .ensures)))))))
+    (asked-false _ (after-unstartable .unstartable .ensures) (else1 .if1 .left)
+    (unless-same _ (else2 .if2 .left)
+    (unless-less _ (else3 .if3 .left)
+    (unless-same _ (else4 .if4 .left)
+    (unless-less _ (else5 .if5 .left)
+    (started-fresh _ _ _ _ _ _ (after-empty .empty .ensures) (after-empty2 .empty2 .ensures) (c .fresh .ensures)))))))
 
 pub start-spec : {M : Type 1} → statement M
 start-spec =

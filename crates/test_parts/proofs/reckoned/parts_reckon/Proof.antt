@@ -1,5 +1,5 @@
--- `test_parts::reckoned::parts_reckon` meets its contract: refused, or the times and waits of settings whose sums are small.
--- Assumes nothing.
+-- `test_parts::reckoned::parts_reckon` meets its contract: refused, or the times and waits of settings whose sums are
+-- small. Assumes nothing.
 use mathlib.Core.Path.{sym, _∙_}
 use Rattle.test_parts.specs.Parts.{reckons}
 use Rattle.test_parts.proofs.reckoned.Laws.{reckon-small}

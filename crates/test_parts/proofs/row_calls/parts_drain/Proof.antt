@@ -1,4 +1,5 @@
--- `test_parts::row_calls::parts_drain` meets its contract: refused, or what confirming all of them leaves. Assumes nothing.
+-- `test_parts::row_calls::parts_drain` meets its contract: refused, or what confirming all of them leaves. Assumes
+-- nothing.
 use mathlib.Core.Path.{refl, sym, _∙_}
 use Rattle.choice.proofs.Rules.{if-same, unless-same}
 use Rattle.test_parts.specs.Calls.{drains, flatConfirmed}
