@@ -1,4 +1,5 @@
-// The answers that touch no memory: none, an SDN's indication and FDL status; and what the services ask. Assumes nothing.
+// The answers that touch no memory: none, an SDN's indication and FDL status; and what the services ask. Assumes
+// nothing.
 ghost use mathlib.Core.Path.{_≡_};
 ghost use Prim.Native.Nat.{_≤_};
 ghost use lib.ListN.{length};

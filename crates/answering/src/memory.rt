@@ -1,5 +1,5 @@
-// The answering memory: whether a request repeats the one that is remembered, the remembered reply laid again, and what is
-// kept of a new one. Assumes nothing.
+// The answering memory: whether a request repeats the one that is remembered, the remembered reply laid again, and
+// what is kept of a new one. Assumes nothing.
 ghost use mathlib.Core.Path.{_≡_};
 ghost use Prim.Native.Nat.{_≤_};
 ghost use mathlib.Core.Bool.{true, false};

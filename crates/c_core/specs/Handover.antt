@@ -154,8 +154,7 @@ held a masters started marks points octets high low out =
       marks = marks;
       points = points;
       octets = octets;
-      high =
-          high;
+      high = high;
       low = low;
       out = out;
     }

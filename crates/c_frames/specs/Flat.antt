@@ -27,8 +27,7 @@ flat (Refused n) =
       from = NONE;
       control = 0;
       start = 0;
-      count =
-          0;
+      count = 0;
     }
 flat (Read (Token d s) p) =
     record {

@@ -12,7 +12,8 @@ use Rattle.control.specs.declared.Kind.the-variants.{Slave, NotReady, Re
 use Rattle.control.specs.declared.Control.{Control}
 use Rattle.control.specs.declared.Control.the-variants.{Request, Reply}
 
--- "low four bits 3 SDA low, 4 SDN low, 5 SDA high, 6 SDN high, 9 FDL status, 12 SRD low, 13 SRD high, 14 Ident, 15 LSAP status"
+-- "low four bits 3 SDA low, 4 SDN low, 5 SDA high, 6 SDN high, 9 FDL status, 12 SRD low, 13 SRD high, 14 Ident, 15
+-- LSAP status"
 abbrev pub serviceNumber : Service → ℕ
 serviceNumber SdaLow = 3
 serviceNumber SdnLow = 4

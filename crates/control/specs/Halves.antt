@@ -1,5 +1,5 @@
--- Which FC octets are listed, by the octet's halves: the tests that the code makes. That they are the definition `listed`
--- is computed (proofs/Halves.antt). Assumes nothing.
+-- Which FC octets are listed, by the octet's halves: the tests that the code makes. That they are the definition
+-- `listed` is computed (proofs/Halves.antt). Assumes nothing.
 use Prim.Native.Nat.{ℕ, _%_}
 use mathlib.Core.Bool.{Bool, true, false}
 use Rattle.choice.specs.Choice.{pick, less, same}

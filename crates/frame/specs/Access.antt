@@ -1,5 +1,5 @@
--- An access point as a number, where one number stands for a point or for none: in a record, at the C boundary and in what
--- replay reads and prints. Assumes nothing.
+-- An access point as a number, where one number stands for a point or for none: in a record, at the C boundary and in
+-- what replay reads and prints. Assumes nothing.
 use Prim.Native.Nat.{ℕ}
 use Rattle.choice.specs.Choice.{pick, same}
 use Rattle.frame.specs.declared.Access.{Access}

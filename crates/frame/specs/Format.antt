@@ -50,7 +50,8 @@ unfoldable pub extension : Access → List ℕ
 extension None = []
 extension (At p) = p .0 ∷ []
 
--- "The unit begins with the destination access point octet if DA announces one, then the source one if SA does, then data"
+-- "The unit begins with the destination access point octet if DA announces one, then the source one if SA does, then
+-- data"
 unfoldable pub unit : Head → List ℕ → List ℕ
 unit h x = extension (h .to) ++ (extension (h .from) ++ x)
 

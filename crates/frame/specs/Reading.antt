@@ -77,7 +77,8 @@ bodyAnswer b start =
     answer (bodyRefusal b) (Frame (headOf b))
     (record { start = start + dataAt b; count = length b - dataAt b })
 
--- 5 to 7, of a frame whose body is the n octets from a place: "octet count is not the form's", "last octet not 16", "FCS differs"
+-- 5 to 7, of a frame whose body is the n octets from a place: "octet count is not the form's", "last octet not 16",
+-- "FCS differs"
 unfoldable pub readBody : List ℕ → ℕ → ℕ → Answer
 readBody s start n =
     pick (same (length s) (start + n + 2))

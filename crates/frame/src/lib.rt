@@ -1,5 +1,5 @@
-// The fields of a frame and its checksum FCS; the definitions of the whole frame table but FC are in specs/. Reading and
-// writing are left to the crates above. Assumes nothing.
+// The fields of a frame and its checksum FCS; the definitions of the whole frame table but FC are in specs/. Reading
+// and writing are left to the crates above. Assumes nothing.
 ghost use mathlib.Core.Path.{_≡_};
 ghost use Prim.Native.Nat.{_≤_};
 ghost use Rattle.frame.specs.Access.{accessOf, pointOf};

@@ -8,7 +8,8 @@ use lib.ListN.{length, take, drop}
 unfoldable pub laid : List ℕ → ℕ → List ℕ → List ℕ
 laid l i u = take i l ++ (u ++ drop (i + length u) l)
 
--- what a step leaves that lays the piece u, of at most room octets, from a place on: the place behind it, and the output
+-- what a step leaves that lays the piece u, of at most room octets, from a place on: the place behind it, and the
+-- output
 pub record Lays (l : List ℕ) (at : ℕ) (u : List ℕ) (room r : ℕ) (m : List ℕ) : Type 0 where
   pub place : r ≡ at + length u
   pub left : m ≡ laid l at u

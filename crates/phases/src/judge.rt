@@ -1,4 +1,5 @@
-// What a good frame is to the request whose reply is awaited: plausible, in vain, or a request or token. Assumes nothing.
+// What a good frame is to the request whose reply is awaited: plausible, in vain, or a request or token. Assumes
+// nothing.
 ghost use mathlib.Core.Path.{_≡_};
 ghost use Rattle.choice.specs.Choice.{pick, same, less};
 ghost use Rattle.state.specs.Request.{answersSda, answersSrd, judgedBy};

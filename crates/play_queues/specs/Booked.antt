@@ -18,4 +18,5 @@ booked a r text = record { answer = a; rows = r; text = text }
 
 unfoldable pub bookedOf : Priority → (Called → List ℕ) → Called → List ℕ → Booked
 bookedOf p line d text =
-    booked (record { state = stateOf (d .world); length = length (line d) }) (rowsOf p (d .world .site)) (laid text 0 (line d))
+    booked (record { state = stateOf (d .world); length = length (line d) }) (rowsOf p (d .world .site))
+    (laid text 0 (line d))

@@ -180,7 +180,8 @@ indicating (Shown h p) octets =
     w-indicate
     ++ (serviceWord (fc (h .control) % 16)
     ++ (spaced (priorityWord (fc (h .control) % 16))
-    ++ (ends (h .destination .0) (h .source .0) (pointOf (h .to)) (pointOf (h .from)) ++ spaced (shown (dataOf octets p)))))
+    ++ (ends (h .destination .0) (h .source .0) (pointOf (h .to)) (pointOf (h .from)) ++ spaced
+    (shown (dataOf octets p)))))
 
 -- the line of frame, sent and slot: "`ok`, then what was sent, then what is indicated"
 unfoldable pub doneLine : ℕ → List ℕ → Indication → List ℕ → List ℕ

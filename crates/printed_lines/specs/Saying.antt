@@ -35,11 +35,13 @@ plainOf d = plainLine (telling (d .events) .refused)
 
 unfoldable pub answerOf : List ℕ → Called → List ℕ
 answerOf octets d =
-    answerLine (telling (d .events) .refused) (telling (d .events) .wait) (telling (d .events) .octets) (telling (d .events) .indication) octets
+    answerLine (telling (d .events) .refused) (telling (d .events) .wait) (telling (d .events) .octets)
+    (telling (d .events) .indication) octets
 
 unfoldable pub handedOf : Priority → Called → List ℕ
 handedOf p d =
-    handedLine (telling (d .events) .refused) (telling (d .events) .place) (telling (d .events) .entry) (rowsOf p (d .world .site) .area)
+    handedLine (telling (d .events) .refused) (telling (d .events) .place) (telling (d .events) .entry)
+    (rowsOf p (d .world .site) .area)
 
 -- what a line of the script does: the state and the rows with their data that it leaves, and the line that it prints
 pub record Plays : Type 0 where

@@ -1,3 +1,4 @@
-// The lines that replay prints: those of collect and show, and the line of a call by what its caller is told. Assumes nothing.
+// The lines that replay prints: those of collect and show, and the line of a call by what its caller is told. Assumes
+// nothing.
 pub mod saying;
 pub mod shown;

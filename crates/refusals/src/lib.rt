@@ -1,5 +1,5 @@
-// The station's refusals 20, 21, 22 and 29: what start refuses, and what every other call refuses in a state, in lent rows
-// and in buffers. Assumes nothing.
+// The station's refusals 20, 21, 22 and 29: what start refuses, and what every other call refuses in a state, in lent
+// rows and in buffers. Assumes nothing.
 ghost use mathlib.Core.Path.{_≡_};
 ghost use Prim.Native.Nat.{_*_, _<_};
 ghost use lib.ListN.{length};
@@ -179,7 +179,8 @@ fn sdn(service: u8) -> bool
 
 // The record being sent, or the one that would be.
 pub fn in_flight(c: Core, high: &[u8], low: &[u8]) -> Record
-    requires { ⌜ (Lawful c) × ((length (now high) ≡ SIZE * c .high .places) × (length (now low) ≡ SIZE * c .low .places)) ⌝ }
+    requires { ⌜ (Lawful c)
+        × ((length (now high) ≡ SIZE * c .high .places) × (length (now low) ≡ SIZE * c .low .places)) ⌝ }
     ensures { λ r. ⌜ r ≡ inFlight c (now (high .entry)) (now (low .entry)) ⌝ }
 {
     let doing = c.doing;
@@ -192,10 +193,11 @@ pub fn in_flight(c: Core, high: &[u8], low: &[u8]) -> Record
     }
 }
 
-// Whether an unconfirmed record is one that submit would refuse, or the record being sent is not the phase's: refusal 29,
-// by the records.
+// Whether an unconfirmed record is one that submit would refuse, or the record being sent is not the phase's: refusal
+// 29, by the records.
 fn unsound(c: Core, high: &[u8], low: &[u8]) -> bool
-    requires { ⌜ (Lawful c) × ((length (now high) ≡ SIZE * c .high .places) × (length (now low) ≡ SIZE * c .low .places)) ⌝ }
+    requires { ⌜ (Lawful c)
+        × ((length (now high) ≡ SIZE * c .high .places) × (length (now low) ≡ SIZE * c .low .places)) ⌝ }
     ensures { λ r. ⌜ r ≡ Refusals·unsound c (now (high .entry)) (now (low .entry)) ⌝ }
 {
     let ts = c.ts;

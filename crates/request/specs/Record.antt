@@ -1,4 +1,5 @@
--- Document 01, "Station": a request record as octets at a place of a row, and what submit refuses in one. Assumes nothing.
+-- Document 01, "Station": a request record as octets at a place of a row, and what submit refuses in one. Assumes
+-- nothing.
 use Prim.Native.Nat.{ℕ, _+_}
 use mathlib.Core.Bool.{Bool, true, false}
 use mathlib.Core.List.{List, [], _∷_}

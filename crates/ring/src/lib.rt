@@ -1,5 +1,5 @@
-// The ring: the set of masters, who is in it, enters it and leaves it, and the search for the next and the previous one,
-// one address after another. Nothing here knows a token. Assumes nothing.
+// The ring: the set of masters, who is in it, enters it and leaves it, and the search for the next and the previous
+// one, one address after another. Nothing here knows a token. Assumes nothing.
 ghost use mathlib.Core.Path.{_≡_};
 ghost use Prim.Native.Nat.{_<_, _≤_};
 ghost use lib.ListN.{set};

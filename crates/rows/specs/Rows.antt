@@ -60,7 +60,8 @@ submitted ts q r x row area = stored (taken ts q r (length x)) x row area
 -- confirmation without data sets the record's length to 0 and leaves the octets"
 unfoldable pub confirm : Queue → ℕ → ℕ → List ℕ → List ℕ → List ℕ → Left Queue
 confirm q status count x row area =
-    left (confirmed q) (put row (current q) (closed (at row (current q)) status count (length x))) (fill area (current q) x)
+    left (confirmed q) (put row (current q) (closed (at row (current q)) status count (length x)))
+    (fill area (current q) x)
 
 -- "Reset confirms all unconfirmed requests DS": n of them, the first with its count of sendings and the others, never
 -- sent, with 0

@@ -1,5 +1,5 @@
-// A row of request records as octets at fixed places, with its data area: submit, confirm, collect, and the check of the
-// unconfirmed records, thin over the queue's decisions. Assumes nothing.
+// A row of request records as octets at fixed places, with its data area: submit, confirm, collect, and the check of
+// the unconfirmed records, thin over the queue's decisions. Assumes nothing.
 ghost use mathlib.Core.Path.{_≡_};
 ghost use Prim.Native.Nat.{_+_, _*_, _<_, _≤_};
 ghost use lib.ListN.{length};

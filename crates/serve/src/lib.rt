@@ -1,5 +1,5 @@
-// What a hold sends: a queue's first request, the same again, or the token. The core goes by value; rows, marks and the set
-// of masters are read, and the output is written. Assumes nothing.
+// What a hold sends: a queue's first request, the same again, or the token. The core goes by value; rows, marks and
+// the set of masters are read, and the output is written. Assumes nothing.
 ghost use mathlib.Core.Path.{_≡_};
 ghost use Prim.Native.Nat.{_<_, _≤_};
 ghost use lib.ListN.{length};

@@ -57,7 +57,8 @@ new g i = record { given = g; indicated = i }
 unfoldable pub newSda : Bool → New
 newSda room = pick room (new Acknowledged true) (new (Coded Rr) false)
 
--- "SRD: with an update, indicated and DH or DL, or without room RDH or RDL; without an update, indicated and NR as SC, or RR"
+-- "SRD: with an update, indicated and DH or DL, or without room RDH or RDL; without an update, indicated and NR as
+-- SC, or RR"
 unfoldable pub newSrd : Bool → ℕ → ℕ → New
 newSrd room high low =
     pick (less 0 high) (pick room (new (Coded Dh) true) (new (Coded Rdh) false))
@@ -100,8 +101,8 @@ repeated k source fcb fcv =
 unfoldable pub recalled : Memory → List ℕ
 recalled m = take (m .kept .length) (m .octets)
 
--- "FCB 1 FCV 0 is new and is remembered with its SA, bit 1 and reply; .. any other FCV 1 is new and remembered; 0, 0 is new
--- and leaves the memory"
+-- "FCB 1 FCV 0 is new and is remembered with its SA, bit 1 and reply; .. any other FCV 1 is new and remembered; 0, 0
+-- is new and leaves the memory"
 unfoldable pub remembered : Memory → Address → Bool → Bool → List ℕ → Memory
 remembered m source fcb fcv x =
     pick (pick fcb true fcv)
@@ -145,7 +146,8 @@ unfoldable pub answerCounted : Responder → List ℕ → Memory → Bool → Bo
 answerCounted r points m isSda fcb fcv room high low h p =
     pick (said (reserved (h .to))) (answered m [])
     (pick (said (repeated (m .kept) (h .source .0) fcb fcv)) (answered m (replies r (recalled m) ∷ []))
-    (answerNew r m (newAnswer (active points (h .to)) isSda room (length high) (length low)) fcb fcv (shown high low) h p))
+    (answerNew r m (newAnswer (active points (h .to)) isSda room (length high) (length low)) fcb fcv (shown high low)
+    h p))
 
 -- by service; Ident and LSAP status are "read, never answered"
 unfoldable pub asks : Service → Asks

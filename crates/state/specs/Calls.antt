@@ -107,7 +107,8 @@ start s ts masters points high low =
     (pick (less PLACES low) (Unstarted 21)
     (Station
     (stateOf
-    (freshWorld (freshCore s ts masters (emptyQueue high) (emptyQueue low)) masters points (replicate 255 0) noRows noRows)))))))
+    (freshWorld (freshCore s ts masters (emptyQueue high) (emptyQueue low)) masters points (replicate 255 0) noRows
+    noRows)))))))
 
 -- ---- submit
 unfoldable pub submitting : Priority → Left Taken → Site → Done
@@ -160,7 +161,8 @@ awaitedRead clock octets (Unread n) s = retry clock s
 awaitedRead clock octets (Read f p) s =
     concluded clock (shown octets p) (judged (s .core .ts .0) (recordOf (s .core .doing .served) s) f (p .count)) s
 
--- "Any frame, good or bad, ends the check (a good one is then handled as in Idle)"; "What a phase does not name is ignored"
+-- "Any frame, good or bad, ends the check (a good one is then handled as in Idle)"; "What a phase does not name is
+-- ignored"
 unfoldable pub heard : Phase → ℕ → Bool → List ℕ → List ℕ → List ℕ → World → Called
 heard Idle clock room high low octets w = idleRead clock room high low (read octets) w
 heard Awaited clock room high low octets w = called (awaitedRead clock octets (read octets) (w .site)) w
@@ -241,8 +243,8 @@ drained p s =
 unfoldable pub dismissal : Priority → Core → List Event
 dismissal p c = dismissed p (queueOf p c .unconfirmed) (countOf p c) (queueOf p c)
 
--- "Reset confirms all unconfirmed requests DS, forgets marks, a first token and the answering memory, restores PS and the
--- set of masters as started, and goes Idle"
+-- "Reset confirms all unconfirmed requests DS, forgets marks, a first token and the answering memory, restores PS and
+-- the set of masters as started, and goes Idle"
 unfoldable pub resetting : World → Called
 resetting w =
     let c : Core = w .site .core in

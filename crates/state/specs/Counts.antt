@@ -75,7 +75,8 @@ pub record History : Type 0 where
 unfoldable pub unheard : History
 unheard = record { marks = λ a. unknown; pending = none }
 
--- a confirmation with that status of a request last sent as those octets: of an SDA or SRD it changes its destination's mark
+-- a confirmation with that status of a request last sent as those octets: of an SDA or SRD it changes its
+-- destination's mark
 unfoldable pub marksBy : ℕ → List ℕ → (ℕ → Mark) → ℕ → Mark
 marksBy status o m a =
     pick (counts (controlIn o)) (pick (same a (destinationIn o)) (settled status (m a)) (m a)) (m a)
@@ -127,8 +128,8 @@ pub record Rightly (h : History) (p : Priority) (n : ℕ) (o : List ℕ) : Type 
   pub turn : Turn p n o (h .pending)
 
 -- ---- what follows of it, in words for lists of events
--- FCB and FCV in the octets of a request, and those that follow a plausible reply: FCV 1 with the other bit, or with 0 if
--- FCV was 0
+-- FCB and FCV in the octets of a request, and those that follow a plausible reply: FCV 1 with the other bit, or with
+-- 0 if FCV was 0
 unfoldable pub bitsOf : Control → Bits
 bitsOf (Request s b v) = record { fcb = b; fcv = v }
 bitsOf (Reply k c) = record { fcb = false; fcv = false }
@@ -170,8 +171,8 @@ unaimed a (indicated f d ∷ l) = unaimed a l
 unaimed a (resets ∷ l) = false
 unaimed a (refused m ∷ l) = unaimed a l
 
--- among the events: an SDA or SRD is sent, it is confirmed with that status, and then comes the next SDA or SRD to the same
--- address
+-- among the events: an SDA or SRD is sent, it is confirmed with that status, and then comes the next SDA or SRD to
+-- the same address
 pub record Succession (e : List Event) : Type 0 where
   pub before : List Event
   pub queue : Priority

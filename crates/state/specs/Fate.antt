@@ -1,5 +1,5 @@
--- What becomes of a high request: a fold over the events after its acceptance, and what demand 3 asks of it. A request is
--- its place of the high queue, from its acceptance until its record is collected. Assumes nothing.
+-- What becomes of a high request: a fold over the events after its acceptance, and what demand 3 asks of it. A
+-- request is its place of the high queue, from its acceptance until its record is collected. Assumes nothing.
 use Prim.Native.Nat.{ℕ, _+_, _<_, _≤_}
 use mathlib.Core.Bool.{Bool, true, false}
 use mathlib.Core.Path.{_≡_}
@@ -11,8 +11,8 @@ use Rattle.state.specs.declared.Priority.the-variants.{High, Low}
 use Rattle.state.specs.World.{What, aRequest, aToken, aReply, Event, accepted, begins, ends, sends, confirmed}
 use Rattle.state.specs.World.{collected, indicated, resets, refused}
 
--- how often it was sent and confirmed, the count of its confirmation, the holds that began after its acceptance and ended,
--- whether such a hold is on, whether a reset came, whether its record was collected, and the count shown then
+-- how often it was sent and confirmed, the count of its confirmation, the holds that began after its acceptance and
+-- ended, whether such a hold is on, whether a reset came, whether its record was collected, and the count shown then
 pub record Fate : Type 0 where
   pub sendings : ℕ
   pub confirmations : ℕ

@@ -1,5 +1,5 @@
--- Document 01, "Hold": a token begins a hold or does not, the time that is left, and the choice of what is sent; then what
--- follows a request's end. Assumes nothing.
+-- Document 01, "Hold": a token begins a hold or does not, the time that is left, and the choice of what is sent; then
+-- what follows a request's end. Assumes nothing.
 use Prim.Native.Nat.{ℕ, _+_}
 use mathlib.Core.Bool.{Bool, true, false}
 use mathlib.Core.List.{List, [], _∷_}
@@ -26,14 +26,14 @@ use Rattle.state.specs.Pass.{pass}
 abbrev pub NOBODY : ℕ
 NOBODY = 127
 
--- "Time is left while (clock - the acceptance before this hold's) modulo 2^32 is below TTR; the first hold after start or
--- reset has no time left"
+-- "Time is left while (clock - the acceptance before this hold's) modulo 2^32 is below TTR; the first hold after
+-- start or reset has no time left"
 unfoldable pub left : Core → ℕ → Bool
 left c clock =
     pick (less 1 (c .hold .begun)) (timeLeft clock (c .hold .before .0) (c .settings .ttr .0)) false
 
--- "At the start of a hold the first high request is sent if there is one, even with no time left. Otherwise, and at each
--- later choice: with time left, the first high, else the first low; else the token is passed"
+-- "At the start of a hold the first high request is sent if there is one, even with no time left. Otherwise, and at
+-- each later choice: with time left, the first high, else the first low; else the token is passed"
 unfoldable pub choice : Bool → Core → ℕ → Choice
 choice starts c clock =
     pick (less 0 (c .high .unconfirmed))
@@ -80,8 +80,8 @@ unfoldable pub admit : ℕ → Site → Site
 admit a s =
     withCore (withPs (record { 0 = a }) (s .core)) (withMasters (enter (s .masters) a) s)
 
--- "A token to TS from PS begins a hold. From another station it is ignored the first time; a second token to TS from that
--- same station, with none to TS from a third (PS included) between, begins a hold .. SA = TS is ignored"
+-- "A token to TS from PS begins a hold. From another station it is ignored the first time; a second token to TS from
+-- that same station, with none to TS from a third (PS included) between, begins a hold .. SA = TS is ignored"
 unfoldable pub token : ℕ → ℕ → ℕ → Site → Done
 token clock d a s =
     pick (same d (s .core .ts .0))
@@ -96,8 +96,8 @@ token clock d a s =
 unfoldable pub ended : Outcome → List ℕ → ℕ → Site → Done
 ended o x clock s = andThen (close o x s) (choose false clock)
 
--- "A refused frame, any other reply, or slot expiry: the same octets again, up to the retry limit; then confirmation NA and
--- the mark unknown"
+-- "A refused frame, any other reply, or slot expiry: the same octets again, up to the retry limit; then confirmation
+-- NA and the mark unknown"
 unfoldable pub retry : ℕ → Site → Done
 retry clock s =
     pick (less (s .core .settings .retries .0) (s .core .doing .sendings)) (ended Lost [] clock s) (again s)

@@ -1,5 +1,5 @@
--- Document 01, "Hold": "with time left, the first high, else the first low", by the history: how many high requests were
--- accepted and are not confirmed, and whether a low request was sent and is not confirmed. Assumes nothing.
+-- Document 01, "Hold": "with time left, the first high, else the first low", by the history: how many high requests
+-- were accepted and are not confirmed, and whether a low request was sent and is not confirmed. Assumes nothing.
 use Prim.Native.Nat.{ℕ, _+_, _-_}
 use mathlib.Core.Bool.{Bool, true, false}
 use mathlib.Core.List.{List, [], _∷_}

@@ -52,7 +52,8 @@ unfoldable pub overcounted : Queue → Queue → ℕ → Bool
 overcounted high low reply =
     pick (said (overfull high)) true (pick (said (overfull low)) true (pick (less 255 reply) true false))
 
--- "a phase at odds with what is being sent": a request is in the queue being served; the token goes to another, or to TS
+-- "a phase at odds with what is being sent": a request is in the queue being served; the token goes to another, or to
+-- TS
 unfoldable pub oddIn : Phase → Core → List ℕ → Bool
 oddIn Idle c masters = false
 oddIn Awaited c masters = same (queueOf (c .doing .served) c .unconfirmed) 0
@@ -67,8 +68,8 @@ lawless c masters started k =
     (pick (said (overcounted (c .high) (c .low) (k .length))) true
     (oddIn (c .doing .phase) c masters)))
 
--- 29, by the records: "any unconfirmed record, in either row, that submit would refuse for itself", and the record being
--- sent: SDA or SRD while its reply is awaited, SDN while that goes out
+-- 29, by the records: "any unconfirmed record, in either row, that submit would refuse for itself", and the record
+-- being sent: SDA or SRD while its reply is awaited, SDN while that goes out
 unfoldable pub soundIn : ℕ → Queue → List ℕ → Bool
 soundIn ts q row = sound ts q row (q .unconfirmed)
 

@@ -1,5 +1,5 @@
--- Runs: a start, then any list of calls, each given the state and the rows with their data as the call before left them.
--- The events of a run are what the callers were told. Assumes nothing.
+-- Runs: a start, then any list of calls, each given the state and the rows with their data as the call before left
+-- them. The events of a run are what the callers were told. Assumes nothing.
 use Prim.Native.Nat.{ℕ, _*_}
 use mathlib.Core.Bool.{Bool}
 use mathlib.Core.Path.{_≡_}
@@ -15,8 +15,9 @@ use Rattle.state.specs.Calls.{Station}
 use Rattle.state.specs.World.{Rows, World, Called, worldOf}
 use Rattle.state.specs.Calls as Calls
 
--- a call after start, with what it is given: submit a request with its data to a queue; a frame with its clock, the room
--- for an indication, the two updates, the octets and the output's length; sent and slot expired with clock and output
+-- a call after start, with what it is given: submit a request with its data to a queue; a frame with its clock, the
+-- room for an indication, the two updates, the octets and the output's length; sent and slot expired with clock and
+-- output
 pub data Call : Type 0 where
   submit : Priority → Record → List ℕ → Call
   frame : ℕ → Bool → List ℕ → List ℕ → List ℕ → ℕ → Call

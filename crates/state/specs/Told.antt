@@ -172,8 +172,7 @@ stands a masters started marks points octets high low out =
       marks = marks;
       points = points;
       octets = octets;
-      high =
-          high;
+      high = high;
       low = low;
       out = out;
     }

@@ -1,5 +1,5 @@
--- Document 01, "Twelve to prove as one tabled statement": each case as the page has it, what is given and what must come
--- out, and `Twelve`, which says that the definitions give all of them. Assumes nothing.
+-- Document 01, "Twelve to prove as one tabled statement": each case as the page has it, what is given and what must
+-- come out, and `Twelve`, which says that the definitions give all of them. Assumes nothing.
 use Prim.Native.Nat.{ℕ}
 use mathlib.Core.Bool.{true, false}
 use mathlib.Core.List.{List, [], _∷_, _++_}
@@ -114,8 +114,8 @@ string6 = 0xA2 ∷ (0x05 ∷ (0x02 ∷ (0x43 ∷ (data6 ++ (0x6E ∷ (0x16 ∷ [
 abbrev pub fields6 : Fields
 fields6 = Frame (between 5 None 2 None (Request SdaLow false false))
 
--- 7 "LE 249 gives 255 octets; LE 3 and 250 are refused 4": a frame whose unit is 246 octets, and a string that begins with
--- LE, whatever follows
+-- 7 "LE 249 gives 255 octets; LE 3 and 250 are refused 4": a frame whose unit is 246 octets, and a string that begins
+-- with LE, whatever follows
 abbrev pub measured : ℕ → List ℕ → List ℕ
 measured le s = 0x68 ∷ (le ∷ (le ∷ (0x68 ∷ s)))
 
@@ -221,8 +221,8 @@ passes = sends aToken (0xDC ∷ (0x05 ∷ (0x02 ∷ []))) 75
 abbrev pub tokenFrom5 : List ℕ
 tokenFrom5 = 0xDC ∷ (0x02 ∷ (0x05 ∷ []))
 
--- 11 "two SRD high to 7; token from 5 at 100: 6D sent; slot: the same; slot: NA, count 2, token DC 05 02"; the slots at any
--- clock
+-- 11 "two SRD high to 7; token from 5 at 100: 6D sent; slot: the same; slot: NA, count 2, token DC 05 02"; the slots
+-- at any clock
 unfoldable pub eleven : ℕ → ℕ → List Step
 eleven first second =
     record { call = submit High (toSeven 0 0) []; told = accepted High 0 ∷ [] }
@@ -232,7 +232,8 @@ eleven first second =
     ∷ (record { call = slot second 255; told = confirmed High 0 NA 2 ∷ (ends ∷ (passes ∷ [])) }
     ∷ []))))
 
--- 12 "Then an SDN from 5 to 9, token from 5 at 600, 6D again, SC at 800: NR, count 1, token passed"; the SDN at any clock
+-- 12 "Then an SDN from 5 to 9, token from 5 at 600, 6D again, SC at 800: NR, count 1, token passed"; the SDN at any
+-- clock
 abbrev pub sdnTo9 : List ℕ
 sdnTo9 = octets (Frame (between 9 None 5 None (Request SdnLow false false))) (0x01 ∷ [])
 

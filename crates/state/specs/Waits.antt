@@ -1,6 +1,6 @@
--- Document 01, "Times": "Each sending comes with its wait: Tid2 before a request or token if this station's last sending in
--- the hold was an SDN, Tid1 before others, min TSDR before a reply". By the history: what was sent last in the hold, and the
--- wait that it gives a request or token. Assumes nothing.
+-- Document 01, "Times": "Each sending comes with its wait: Tid2 before a request or token if this station's last
+-- sending in the hold was an SDN, Tid1 before others, min TSDR before a reply". By the history: what was sent last in
+-- the hold, and the wait that it gives a request or token. Assumes nothing.
 use Prim.Native.Nat.{ℕ}
 use mathlib.Core.Bool.{Bool, true, false}
 use mathlib.Core.List.{List, [], _∷_}
@@ -12,7 +12,8 @@ use Rattle.state.specs.World.{What, aRequest, aToken, aReply, Event, acc
 use Rattle.state.specs.World.{collected, indicated, resets, refused}
 use Rattle.state.specs.Counts.{controlIn, counts}
 
--- whether the last sending in the hold was an SDN: a request that is neither SDA nor SRD. A reply is no sending in a hold
+-- whether the last sending in the hold was an SDN: a request that is neither SDA nor SRD. A reply is no sending in a
+-- hold
 unfoldable pub sdnBy : What → List ℕ → Bool → Bool
 sdnBy (aRequest p n) o b = pick (counts (controlIn o)) false true
 sdnBy aToken o b = false

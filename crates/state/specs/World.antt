@@ -1,5 +1,5 @@
--- What a call finds and leaves: the station's state and both rows with their data; and the events that its caller is told
--- of. An act on the site goes from a site to a site and its events; acts in a row are one. Assumes nothing.
+-- What a call finds and leaves: the station's state and both rows with their data; and the events that its caller is
+-- told of. An act on the site goes from a site to a site and its events; acts in a row are one. Assumes nothing.
 use Prim.Native.Nat.{ℕ}
 use mathlib.Core.List.{List, [], _∷_, _++_}
 use Rattle.frame.specs.declared.Address.{Address}
@@ -42,9 +42,9 @@ pub data What : Type 0 where
   aToken : What
   aReply : What
 
--- what a caller is told: a request was accepted at a place of a queue; a hold begins, a hold ends; octets are to be sent
--- after a wait; the request at a place was confirmed with its status and its count; its record was collected; a request
--- is indicated; the station was reset; the call was refused
+-- what a caller is told: a request was accepted at a place of a queue; a hold begins, a hold ends; octets are to be
+-- sent after a wait; the request at a place was confirmed with its status and its count; its record was collected; a
+-- request is indicated; the station was reset; the call was refused
 pub data Event : Type 0 where
   accepted : Priority → ℕ → Event
   begins : Event

@@ -102,8 +102,8 @@ pub struct Moved {
     pub wait: BitTime,
 }
 
-// What is answered to a request: what the memory keeps but for the octets, how many octets to send and after which wait,
-// and what is indicated.
+// What is answered to a request: what the memory keeps but for the octets, how many octets to send and after which
+// wait, and what is indicated.
 pub struct Spoken {
     pub kept: Kept,
     pub length: usize,
@@ -111,8 +111,8 @@ pub struct Spoken {
     pub indication: Indication,
 }
 
-// What frame, sent and slot answer where the arrays of the state are lent: the refusal or 0, the core and what the memory
-// keeps, how many octets to send and after which wait, and what is indicated.
+// What frame, sent and slot answer where the arrays of the state are lent: the refusal or 0, the core and what the
+// memory keeps, how many octets to send and after which wait, and what is indicated.
 pub struct Heard {
     pub refused: u8,
     pub core: Core,

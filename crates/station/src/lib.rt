@@ -1,5 +1,6 @@
-// The station's seven calls on a state by value: start, submit, collect, frame, sent, slot and reset. Each takes any state,
-// rows, buffers and octets, and answers. Here are frame, sent and slot; the others are handed on. Assumes nothing.
+// The station's seven calls on a state by value: start, submit, collect, frame, sent, slot and reset. Each takes any
+// state, rows, buffers and octets, and answers. Here are frame, sent and slot; the others are handed on. Assumes
+// nothing.
 ghost use mathlib.Core.Path.{_≡_};
 ghost use lib.ListN.{length};
 ghost use Rattle.state.specs.World.{rows, worldOf};

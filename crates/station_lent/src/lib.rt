@@ -1,5 +1,5 @@
-// The station's calls frame, sent and slot expired, where the arrays of its state are lent: each takes any core, arrays,
-// rows, buffers and octets, and answers. Assumes nothing.
+// The station's calls frame, sent and slot expired, where the arrays of its state are lent: each takes any core,
+// arrays, rows, buffers and octets, and answers. Assumes nothing.
 ghost use mathlib.Core.Path.{_≡_};
 ghost use lib.ListN.{length};
 ghost use Rattle.state.specs.World.{rows};

@@ -1,4 +1,5 @@
--- What submit and collect decide by the parts of a state and the lent row, before a state is made of it. Assumes nothing.
+-- What submit and collect decide by the parts of a state and the lent row, before a state is made of it. Assumes
+-- nothing.
 use Prim.Native.Nat.{ℕ}
 use mathlib.Core.List.{List}
 use Rattle.choice.specs.Choice.{pick, same, said}

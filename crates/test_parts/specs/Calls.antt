@@ -94,8 +94,8 @@ submits ts q r x row area =
     (flatSubmitted (submitted ts q r x row area))
     (left (flatQueue (unlent q (length row) (length area)) q) row area)
 
--- what a confirmation leaves, with its answer in numbers; refused, all is as it was: 28 is given for none unconfirmed, 26
--- for data over 246
+-- what a confirmation leaves, with its answer in numbers; refused, all is as it was: 28 is given for none
+-- unconfirmed, 26 for data over 246
 unfoldable pub flatConfirmed : Left Queue → Left FlatQueue
 flatConfirmed w = left (flatQueue 0 (w .answer)) (w .row) (w .area)
 

@@ -1,5 +1,5 @@
-// The station's times and the search in its ring for the tests outside Rattle, as C functions. Numbers go in and structs
-// of numbers come out; every input has an answer. Assumes nothing.
+// The station's times and the search in its ring for the tests outside Rattle, as C functions. Numbers go in and
+// structs of numbers come out; every input has an answer. Assumes nothing.
 ghost use mathlib.Core.Path.{_≡_};
 ghost use Rattle.times.specs.Times.{Small, standard};
 ghost use Rattle.times.specs.declared.Reckoned.the-variants.{Refused, Reckon};
