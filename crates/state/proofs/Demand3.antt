@@ -33,8 +33,10 @@ use Rattle.state.specs.Calls.{called, refuse, submitting}
 use Rattle.state.specs.Runs.{Call, call, run, Begun}
 use Rattle.state.specs.Runs.Call.{submit}
 use Rattle.state.specs.Fate.{Fate, newborn, fate, Served}
+use Rattle.state.specs.Precedence.{nobody, lineLast}
 use Rattle.state.proofs.Cases.{by}
 use Rattle.state.proofs.Refused.{refuses}
+use Rattle.state.proofs.Precedence.{waiting-is}
 use Rattle.state.proofs.Places.{Rowed, waiting-new, rowed-grown}
 use Rattle.state.proofs.Fates.{fresh-born, Fresh}
 use Rattle.state.proofs.Phases.{flight, odd-by}
@@ -187,11 +189,12 @@ served w r x p after e =
     .stands)
 
 -- demand 3: "After a start and before any other, if each call is given the station's state and each queue row, data
--- included, just as the call before left them": of all calls before the request and all calls after it
+-- included, just as the call before left them": of all calls before the request and all calls after it. k is how many
+-- high requests were accepted before it and not confirmed, by what the callers were told
 pub demand-3 : (w : World) (b : Begun w) (before after : List Call) (r : Record) (x : List ℕ) (p : ℕ)
     → call (submit High r x) (run before w .world) .events ≡ accepted High p ∷ []
-    → Served (run before w .world .site .core .high .unconfirmed) (b .settings .retries .0)
+    → Served (lineLast (run before w .events) nobody .waiting) (b .settings .retries .0)
     (fate p (run after (call (submit High r x) (run before w .world) .world) .events) newborn)
 demand-3 w b before after r x p e =
-    rw (run-orderly (b .settings) (b .ts) before w (begun-orderly w b) .firm .settings) at
+    rw (waiting-is w b before, run-orderly (b .settings) (b .ts) before w (begun-orderly w b) .firm .settings) at
     (served (run before w .world) r x p after e)

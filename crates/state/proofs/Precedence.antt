@@ -28,7 +28,7 @@ use Rattle.state.proofs.Acts.{Point, calm, free, choosing, passing, hal
 use Rattle.state.proofs.Acts.{notes, admits, drops, spares, renews, Act, opens, serves, stops, quits, passes}
 use Rattle.state.proofs.Acts.{repasses, repeats, closes, takes, hands, replies, shows, restarts, breaks}
 use Rattle.state.proofs.Acts.{clears-high, clears-low}
-use Rattle.state.proofs.Keeping.{ungrounded, Account, ofSendings, met}
+use Rattle.state.proofs.Keeping.{ungrounded, Account, ofSendings, kept-run, met}
 use Rattle.state.proofs.Standing.{sending-served, passing-flight}
 use Rattle.state.proofs.Start.{begun-queues, begun-marks}
 
@@ -151,9 +151,13 @@ unfolding KnowsIn flight
 placed-begun w b =
     record {
       count = ap (λ (q : Queue). q .unconfirmed) (begun-queues w b .0) ∙ empty-line _;
-      knows = unflown
-          (ap flight (begun-marks w b .1));
+      knows = unflown (ap flight (begun-marks w b .1));
     }
+
+-- after a start and any calls, the high queue has as many unconfirmed requests as were accepted and not confirmed
+pub waiting-is : (w : World) → Begun w → (l : List Call)
+    → run l w .world .site .core .high .unconfirmed ≡ lineLast (run l w .events) nobody .waiting
+waiting-is w b l = kept-run precedence l w nobody any (placed-begun w b) .at .count
 
 low-goes : (n : ℕ) (o : List ℕ) (k : ℕ) (h : Line) → Meets (sends (aRequest Low n) o k) h → h .low ≡ false
     → h .waiting ≡ 0
