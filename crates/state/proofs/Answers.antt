@@ -1,7 +1,9 @@
--- The answering side tells of nothing but replies and indications. Assumes nothing.
-use Prim.Native.Nat.{ℕ}
+-- The answering side tells of nothing but replies and indications, of one reply at most. Assumes nothing.
+use Prim.Native.Nat.{ℕ, _+_, _≤_}
 use mathlib.Core.Bool.{Bool, true, false}
 use mathlib.Core.List.{List, [], _∷_}
+use mathlib.Core.Path.{_≡_, refl}
+use native.Mathlib.Omega.{arith}
 use Rattle.control.specs.declared.Control.{Control}
 use Rattle.control.specs.declared.Control.the-variants.{Request, Reply}
 use Rattle.frame.specs.declared.Head.{Head}
@@ -14,16 +16,31 @@ use Rattle.state.specs.declared.Asks.the-variants.{Sda, Srd, Sdn, Status
 use Rattle.state.specs.World.{Event, indicated}
 use Rattle.state.specs.Answering.{Answered, answered, shows, replies, statusEvents, sdnEvents, answerNew}
 use Rattle.state.specs.Answering.{answerCounted, answerAs, answerTo, answer}
+use Rattle.state.specs.Runs.{sendingOf, sendingsIn}
 use Rattle.state.proofs.Cases.{by}
 
--- replies and indications
+-- replies and indications, nothing sent behind a reply
 pub data Answers (r : Responder) : List Event → Type 0 where
   none : Answers r []
-  replied : (o : List ℕ) (l : List Event) → Answers r l → Answers r (replies r o ∷ l)
+  replied : (o : List ℕ) (l : List Event) → sendingsIn l ≡ 0 → Answers r l → Answers r (replies r o ∷ l)
   shown : (h : Head) (d : Part) (l : List Event) → Answers r l → Answers r (indicated h d ∷ l)
 
 pub record Answering (r : Responder) (a : Answered) : Type 0 where
   pub told : Answers r (a .events)
+
+pub few-answers : {r : Responder} {l : List Event} → Answers r l → sendingsIn l ≤ 1
+unfolding sendingsIn sendingOf replies
+few-answers none = omega arith
+few-answers (replied o l e a) = omega (arith, e)
+few-answers (shown h d l a) = omega (arith, few-answers a)
+
+unsent-none : sendingsIn [] ≡ 0
+unfolding sendingsIn
+unsent-none = refl
+
+unsent-shows : (i : Bool) (h : Head) (d : Part) → sendingsIn (shows i h d) ≡ 0
+unfolding shows sendingsIn sendingOf
+unsent-shows i h d = by (λ (l : List Event). sendingsIn l ≡ 0) _ _ _ (λ e. refl) (λ e. refl)
 
 answers-shows : (r : Responder) (i : Bool) (h : Head) (d : Part) → Answers r (shows i h d)
 unfolding shows
@@ -31,7 +48,7 @@ answers-shows r i h d = by (Answers r) _ _ _ (λ e. shown h d [] none) (λ e. no
 
 answers-status : (r : Responder) (h : Head) → Answers r (statusEvents r h)
 unfolding statusEvents
-answers-status r h = by (Answers r) _ _ _ (λ e. none) (λ e. replied _ [] none)
+answers-status r h = by (Answers r) _ _ _ (λ e. none) (λ e. replied _ [] unsent-none none)
 
 answering : (r : Responder) (m : Memory) (e : List Event) → Answers r e → Answering r (answered m e)
 unfolding answered
@@ -40,13 +57,13 @@ answering r m e t = record { told = t }
 module _ (r : Responder) (points : List ℕ) (m : Memory) (room : Bool) (high low : List ℕ) (h : Head) (d : Part) where
   answering-new : (n : New) (fcb fcv : Bool) (x : List ℕ) → Answering r (answerNew r m n fcb fcv x h d)
   unfolding answerNew
-  answering-new n fcb fcv x = answering r _ _ (replied _ _ (answers-shows r (n .indicated) h d))
+  answering-new n fcb fcv x = answering r _ _ (replied _ _ (unsent-shows (n .indicated) h d) (answers-shows r (n .indicated) h d))
 
   answering-counted : (isSda fcb fcv : Bool) → Answering r (answerCounted r points m isSda fcb fcv room high low h d)
   unfolding answerCounted
   answering-counted isSda fcb fcv =
       by (Answering r) _ _ _ (λ e. answering r m [] none)
-      (λ e. by (Answering r) _ _ _ (λ e. answering r m _ (replied _ [] none)) (λ e. answering-new _ fcb fcv _))
+      (λ e. by (Answering r) _ _ _ (λ e. answering r m _ (replied _ [] unsent-none none)) (λ e. answering-new _ fcb fcv _))
 
   answering-as : (a : Asks) (fcb fcv : Bool) → Answering r (answerAs a r points m fcb fcv room high low h d)
   unfolding answerAs sdnEvents

@@ -39,8 +39,7 @@ returned-is ts r h e =
       destination = true-same _ _ (a .0);
       source = true-same _ _ (b .0);
       to = true-same _ _ (d .0);
-      from = true-same
-          _ _ (f .0);
+      from = true-same _ _ (f .0);
     }
 
 unfoldable plausible : Verdict → Bool

@@ -175,8 +175,7 @@ fresh-sent n f h =
       confirmations = h .confirmations;
       reset = h .reset;
       collected = h .collected;
-      sendings = ap (λ (m : ℕ). m + 1)
-          (h .sendings);
+      sendings = ap (λ (m : ℕ). m + 1) (h .sendings);
     }
 
 pub fresh-begun : (n : ℕ) (f : Fate) → Fresh n f → Fresh n (holdBegun f)

@@ -111,8 +111,7 @@ module _ (ts : ℕ) (q : Queue) (r : Rows) (k : Filed ts q r) where
       → Filed ts (confirmed q)
       (record {
         row = confirm q status count x (r .row) (r .area) .row;
-        area = confirm q status count x (r .row)
-            (r .area) .area;
+        area = confirm q status count x (r .row) (r .area) .area;
       })
   filed-confirmed status count x h e n =
       record {

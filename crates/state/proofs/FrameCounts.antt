@@ -173,8 +173,7 @@ module _ {ts : Address} {marks : List ℕ} {g : Doing} {h l h′ : Queue} {u v u
       record {
         agree = i .agree;
         flying = λ f. rw e (rw e at (i .flying f) ∙ sym (k (rw e at (n f))));
-        resting = i
-            .resting;
+        resting = i .resting;
       }
   refit-high Low e n k i = record { agree = i .agree; flying = λ f. rw e (rw e at (i .flying f)); resting = i .resting }
 
@@ -187,8 +186,7 @@ module _ {ts : Address} {marks : List ℕ} {g : Doing} {h l h′ : Queue} {u v u
       record {
         agree = i .agree;
         flying = λ f. rw e (rw e at (i .flying f) ∙ sym (k (rw e at (n f))));
-        resting = i
-            .resting;
+        resting = i .resting;
       }
 
 taken-short : (ts : ℕ) (q : Queue) (r : Record) (n : ℕ) → Accepted ts q r n → n ≤ AREA

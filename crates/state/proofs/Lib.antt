@@ -30,4 +30,6 @@ pub mod FrameCounts
 pub mod Following
 pub mod Waits
 pub mod Precedence
+pub mod Holds
+pub mod Sendings
 pub mod Apart

@@ -12,6 +12,7 @@ use Rattle.state.specs.declared.Core.{Core}
 use Rattle.state.specs.World.{ends, queueOf}
 use Rattle.state.specs.Refusals.{oddIn, unlikeIn}
 use Rattle.state.specs.Calls.{begun, broken}
+use Rattle.state.specs.Holds.{holding}
 
 unfoldable pub flight : Phase → Bool
 flight Idle = false
@@ -49,6 +50,14 @@ broken-by Awaited = refl
 broken-by Sdn = refl
 broken-by Check = refl
 broken-by ToSelf = refl
+
+pub holding-by : (x : Phase) → holding x ≡ flight x
+unfolding flight holding
+holding-by Idle = refl
+holding-by Awaited = refl
+holding-by Sdn = refl
+holding-by Check = refl
+holding-by ToSelf = refl
 
 pub begun-by : (x : Phase) (n : ℕ) → begun x n ≡ pick (flight x) n 0
 unfolding flight begun pick

@@ -236,8 +236,7 @@ module _ (t : Settings) (ts : ℕ) (small : ts ≤ 126) where
         first = b;
         among = c;
         high = f .high;
-        low = f
-            .low;
+        low = f .low;
       }
 
   ps-small : (n : ℕ) (l : List ℕ) (c : Core) → c .ts .0 ≡ ts → c .ps .0 ≤ 126 → psWithout n l c ≤ 126
@@ -263,8 +262,7 @@ module _ (t : Settings) (ts : ℕ) (small : ts ≤ 126) where
   poised-moved (notes a s h i j k) g =
       record {
         firm = readdress (g .firm) (g .firm .previous) (let l = h any in omega arith) (g .firm .among);
-        apt = g
-            .apt;
+        apt = g .apt;
       }
   poised-moved (admits a s h i j) g =
       record {

@@ -1,6 +1,6 @@
 -- Every call, of any world, is refused whole or is a trail of moves and acts: the one walk through the rules. Assumes
 -- nothing.
-use Prim.Native.Nat.{ℕ, zero, suc, _≤_, _<_}
+use Prim.Native.Nat.{ℕ, zero, suc, _+_, _≤_, _<_}
 use mathlib.Core.Bool.{Bool, true, false}
 use mathlib.Core.Path.{_≡_, refl, sym, ap, _∙_}
 use mathlib.Core.List.{List, [], _∷_, _++_}
@@ -40,7 +40,7 @@ use Rattle.state.specs.World.{Site, World, Event, Done, Called, refused,
 use Rattle.state.specs.World.{queueOf, withCore, rowsOf, withRows, withSite, withMemory}
 use Rattle.state.specs.Request.{sendEvents, send, againEvents, againOf, again, closeOf, close}
 use Rattle.state.specs.Pass.{passEvents, pass, passAgain, recheck}
-use Rattle.state.specs.Hold.{choice, finish, chosen, choose, rest, begin, token, ended, retry, over, givenUp}
+use Rattle.state.specs.Hold.{choice, finish, chosen, choose, rest, beginning, begin, token, ended, retry, over, givenUp}
 use Rattle.state.specs.Hold.{concluded}
 use Rattle.state.specs.Answering.{UPDATE, Answered}
 use Rattle.state.specs.Refusals.{unstarted, lawless}
@@ -49,14 +49,14 @@ use Rattle.state.specs.Calls.{called, replying, refuse, nothing, submitt
 use Rattle.state.specs.Calls.{idleRead}
 use Rattle.state.specs.Calls.{awaitedRead, heard, sentIn, slotIn, dismissed, dismissal, broken, countOf}
 use Rattle.state.specs.Calls.{drained, forgotten, freshWorld, resetting}
-use Rattle.state.specs.Runs.{Call, call}
+use Rattle.state.specs.Runs.{Call, call, sendingOf, sendingsIn}
 use Rattle.state.specs.Runs.Call.{submit, frame, sent, slot, reset, collect}
 use Rattle.state.proofs.Cases.{by, Any, any, positive}
 use Rattle.state.proofs.Phases.{flight, broken-by}
 use Rattle.state.proofs.Acts.{Point, calm, free, choosing, passing, halting, clearing, Closing, Move, Trail}
 use Rattle.state.proofs.Acts.{stop, move, act, filled}
 use Rattle.state.proofs.Acts as Acts
-use Rattle.state.proofs.Answers.{Answers, none, replied, shown, Answering, answering-answer}
+use Rattle.state.proofs.Answers.{Answers, none, replied, shown, Answering, answering-answer, few-answers}
 use Rattle.state.proofs.Hearing.{Memorable, Lawful, statusBy, Minds, minds-answer, read-token, read-source}
 use Rattle.state.proofs.Hearing.{lawful-judged, short-updates}
 use Rattle.state.proofs.Places.{fewer}
@@ -64,31 +64,32 @@ use Rattle.state.proofs.Places.{fewer}
 -- ---- the site
 pub record Goes (k : Type 0) (p : Point) (s : Site) (q : Point) (d : Done) : Type 0 where
   pub trail : Trail k p s (d .events) q (d .site)
+  pub few : sendingsIn (d .events) ≤ 1
 
 module _ (k : Type 0) where
   goes-still : (p : Point) (s : Site) → Goes k p s p (still s)
-  unfolding still
-  goes-still p s = record { trail = stop }
+  unfolding still sendingsIn
+  goes-still p s = record { trail = stop; few = omega arith }
 
   goes-after : {p q r : Point} {s t : Site} {d : Done} → Move k p s q t → Goes k q t r d → Goes k p s r d
-  goes-after m g = record { trail = move m (g .trail) }
+  goes-after m g = record { trail = move m (g .trail); few = g .few }
 
   -- ---- the pass and the choice
   goes-pass : (s : Site) → Goes k passing s calm (pass s)
-  unfolding pass passEvents done
-  goes-pass s = record { trail = act (Acts.passes s) stop }
+  unfolding pass passEvents done sendingsIn sendingOf
+  goes-pass s = record { trail = act (Acts.passes s) stop; few = omega arith }
 
   goes-recheck : (s : Site) → (k → s .core .doing .phase ≡ Check) → Goes k calm s calm (recheck s)
-  unfolding recheck passAgain done
+  unfolding recheck passAgain done sendingsIn sendingOf
   goes-recheck s e =
-      by (Goes k calm s calm) _ _ _ (λ h. record { trail = act (Acts.repasses s e (true-less _ _ h)) stop })
+      by (Goes k calm s calm) _ _ _ (λ h. record { trail = act (Acts.repasses s e (true-less _ _ h)) stop; few = omega arith })
       (λ h. goes-after (Acts.drops s e (false-less _ _ h)) (goes-pass _))
 
   goes-chosen : (starts : Bool) (clock : ℕ) (x : Choice) (s : Site) → choice starts (s .core) clock ≡ x
       → Goes k (choosing starts) s calm (chosen x s)
-  unfolding chosen send sendEvents finish andThen done
-  goes-chosen starts clock (Serve y) s e = record { trail = act (Acts.serves starts clock y s e) stop }
-  goes-chosen starts clock PassOn s e = record { trail = act (Acts.stops starts clock s e) (goes-pass s .trail) }
+  unfolding chosen send sendEvents finish andThen done sendingsIn sendingOf
+  goes-chosen starts clock (Serve y) s e = record { trail = act (Acts.serves starts clock y s e) stop; few = omega arith }
+  goes-chosen starts clock PassOn s e = record { trail = act (Acts.stops starts clock s e) (goes-pass s .trail); few = omega (arith, goes-pass s .few) }
 
   goes-choose : (starts : Bool) (clock : ℕ) (s : Site) → Goes k (choosing starts) s calm (choose starts clock s)
   unfolding choose
@@ -96,8 +97,9 @@ module _ (k : Type 0) where
 
   -- ---- a hold's start
   goes-begin : (clock : ℕ) (s : Site) → Goes k free s calm (begin clock s)
-  unfolding begin andThen done
-  goes-begin clock s = record { trail = act (Acts.opens clock s) (goes-choose true clock _ .trail) }
+  unfolding begin andThen done sendingsIn sendingOf
+  goes-begin clock s = let g = goes-choose true clock (withCore (beginning clock (s .core)) s) in
+      record { trail = act (Acts.opens clock s) (g .trail); few = omega (arith, g .few) }
 
   pub goes-token : (clock d a : ℕ) (s : Site) → (k → a ≤ 126) → (k → flight (s .core .doing .phase) ≡ false)
       → Goes k calm s calm (token clock d a s)
@@ -116,23 +118,25 @@ module _ (k : Type 0) where
   -- ---- a request's end
   goes-ended : (x : Phase) (o : Ending) (l : List ℕ) (clock : ℕ) (s : Site) → (k → s .core .doing .phase ≡ x)
       → (k → Closing x o l) → Goes k calm s calm (ended o l clock s)
-  unfolding ended close closeOf andThen done
+  unfolding ended close closeOf andThen done sendingsIn sendingOf
   goes-ended x o l clock s e c =
-      record { trail = act (Acts.closes _ x o l s refl e c) (goes-choose false clock _ .trail) }
+      let g = goes-choose false clock (close o l s .site) in
+      record { trail = act (Acts.closes _ x o l s refl e c) (g .trail); few = omega (arith, g .few) }
 
   goes-givenUp : (s : Site) → (k → s .core .doing .phase ≡ Awaited) → Goes k calm s calm (givenUp s)
-  unfolding givenUp close closeOf over andThen done
+  unfolding givenUp close closeOf over andThen done sendingsIn sendingOf
   goes-givenUp s e =
       record {
         trail = act (Acts.closes _ Awaited _ [] s refl e (λ z. Acts.lost))
             (act (Acts.quits _) (move (Acts.rests _) stop));
+        few = omega arith;
       }
 
   goes-retry : (clock : ℕ) (s : Site) → (k → s .core .doing .phase ≡ Awaited) → Goes k calm s calm (retry clock s)
-  unfolding retry again againOf againEvents done
+  unfolding retry again againOf againEvents done sendingsIn sendingOf
   goes-retry clock s e =
       by (Goes k calm s calm) _ _ _ (λ h. goes-ended Awaited _ [] clock s e (λ z. Acts.lost))
-      (λ h. record { trail = act (Acts.repeats _ s refl e (false-less _ _ h)) stop })
+      (λ h. record { trail = act (Acts.repeats _ s refl e (false-less _ _ h)) stop; few = omega arith })
 
   goes-concluded : (clock : ℕ) (x : List ℕ) (v : Verdict) (s : Site) → (k → s .core .doing .phase ≡ Awaited)
       → (k → Lawful x v) → Goes k calm s calm (concluded clock x v s)
@@ -169,28 +173,29 @@ module _ (k : Type 0) where
 -- ---- the answering side
 trail-answers : {l : List Event} (s : Site) → Answers (responder (s .core)) l → Trail Any calm s l calm s
 trail-answers s none = stop
-trail-answers s (replied o l a) = act (Acts.replies o s) (trail-answers s a)
+trail-answers s (replied o l e a) = act (Acts.replies o s) (trail-answers s a)
 trail-answers s (shown h d l a) = act (Acts.shows any h d s) (trail-answers s a)
 
 -- ---- a call that is carried out
 pub record Carried (w : World) (d : Called) : Type 0 where
   pub trail : Trail Any calm (w .site) (d .events) calm (d .world .site)
+  pub few : sendingsIn (d .events) ≤ 1
   pub started : d .world .started ≡ w .started
   pub memory : Memorable (w .memory) → Memorable (d .world .memory)
 
 pub carried-nothing : (w : World) → Carried w (nothing w)
-unfolding nothing
-carried-nothing w = record { trail = stop; started = refl; memory = λ m. m }
+unfolding nothing sendingsIn
+carried-nothing w = record { trail = stop; few = omega arith; started = refl; memory = λ m. m }
 
 carried-called : (d : Done) (w : World) → Goes Any calm (w .site) calm d → Carried w (called d w)
 unfolding called withSite
-carried-called d w g = record { trail = g .trail; started = refl; memory = λ m. m }
+carried-called d w g = record { trail = g .trail; few = g .few; started = refl; memory = λ m. m }
 
 carried-replying : (a : Answered) (w : World) → Answering (responder (w .site .core)) a
     → (Memorable (w .memory) → Minds a) → Carried w (replying a w)
 unfolding replying withMemory
 carried-replying a w t m =
-    record { trail = trail-answers (w .site) (t .told); started = refl; memory = λ z. m z .memory }
+    record { trail = trail-answers (w .site) (t .told); few = few-answers (t .told); started = refl; memory = λ z. m z .memory }
 
 -- after the pass's check is let go
 carried-rested : {d : Called} (w : World) → flight (w .site .core .doing .phase) ≡ false
@@ -199,9 +204,9 @@ unfolding withSite
 carried-rested w f c =
     record {
       trail = move (Acts.lets-go _ (λ z. f)) (move (Acts.rests _) (c .trail));
+      few = c .few;
       started = c .started;
-      memory = c
-          .memory;
+      memory = c .memory;
     }
 
 -- ---- frame
@@ -298,11 +303,41 @@ reset-rest : (w : World) → (resetting w .world .started ≡ w .started) × Mem
 unfolding resetting freshWorld forgotten
 reset-rest w = (refl, record { source = omega arith; reply = omega arith })
 
+-- a reset sends nothing
+pub sendings-append : (a b : List Event) → sendingsIn (a ++ b) ≡ sendingsIn a + sendingsIn b
+unfolding sendingsIn
+sendings-append [] b = omega arith
+sendings-append (e ∷ a) b = omega (arith, sendings-append a b)
+
+unsent-broken : (x : Phase) → sendingsIn (broken x) ≡ 0
+unfolding sendingsIn sendingOf
+unsent-broken x =
+    rw (broken-by x) (by (λ (l : List Event). sendingsIn l ≡ 0) _ _ _ (λ e. refl) (λ e. refl))
+
+unsent-dismissed : (y : Priority) (n count : ℕ) (q : Queue) → sendingsIn (dismissed y n count q) ≡ 0
+unfolding dismissed sendingsIn sendingOf
+unsent-dismissed y zero count q = refl
+unsent-dismissed y (suc n) count q = omega (arith, unsent-dismissed y n 0 (Q.confirmed q))
+
+few-resetting : (w : World) → sendingsIn (resetting w .events) ≤ 1
+unfolding resetting dismissal sendingsIn sendingOf
+few-resetting w =
+    let c = w .site .core in
+    omega (
+      arith,
+      sendings-append (broken (c .doing .phase)) (dismissal High c ++ dismissal Low c),
+      sendings-append (dismissal High c) (dismissal Low c),
+      unsent-broken (c .doing .phase),
+      unsent-dismissed High (queueOf High c .unconfirmed) (countOf High c) (queueOf High c),
+      unsent-dismissed Low (queueOf Low c .unconfirmed) (countOf Low c) (queueOf Low c),
+    )
+
 pub carried-resetting : (w : World)
     → lawless (w .site .core) (w .site .masters) (w .started) (w .memory .kept) ≡ false → Carried w (resetting w)
 carried-resetting w e =
     record {
       trail = trail-resetting Any w (λ z. among-started (w .site .core) (w .site .masters) (w .started) _ e);
+      few = few-resetting w;
       started = reset-rest w .0;
       memory = λ m. reset-rest w .1;
     }
@@ -323,13 +358,13 @@ course-submit : (y : Priority) (r : Record) (x : List ℕ) (w : World)
     → Outcome (w .site .core .ts .0) (queueOf y (w .site .core)) r x (rowsOf y (w .site) .row)
     (rowsOf y (w .site) .area) (submittedTo y r x (w .site))
     → Course w (called (submitting y (submittedTo y r x (w .site)) (w .site)) w)
-unfolding submitting done take Q.refuse
+unfolding submitting done take Q.refuse sendingsIn sendingOf
 course-submit y r x w (as-it-was n z e) =
     rw (← e) (by (λ (d : Done). Course w (called d w)) _ _ _ (λ b. absurd (z (true-same n 0 b))) (λ b. spurned n w))
 course-submit y r x w (with-it a e) =
     rw (← e)
     (by (λ (d : Done). Course w (called d w)) _ _ _
-    (λ b. carried (carried-called _ w (record { trail = act (Acts.takes y r x (w .site) a e) stop })))
+    (λ b. carried (carried-called _ w (record { trail = act (Acts.takes y r x (w .site) a e) stop; few = omega arith })))
     (λ b. spurned 0 w))
 
 -- a fact of what a queue hands back: of every refusal, and of its oldest confirmed record
@@ -341,10 +376,10 @@ handed-back P q row f g =
 
 pub course-collect : (y : Priority) (w : World)
     → Course w (called (collecting y (handed (queueOf y (w .site .core)) (rowsOf y (w .site) .row)) (w .site)) w)
-unfolding collecting done
+unfolding collecting done sendingsIn sendingOf
 course-collect y w =
     handed-back (λ (c : Collected). Course w (called (collecting y c (w .site)) w)) _ _ (λ n. spurned n w)
-    (λ h. carried (carried-called _ w (record { trail = act (Acts.hands y (w .site) h) stop })))
+    (λ h. carried (carried-called _ w (record { trail = act (Acts.hands y (w .site) h) stop; few = omega arith })))
 
 pub course : (c : Call) (w : World) → Course w (call c w)
 unfolding call Calls.submit Calls.collect Calls.reset Calls.frame Calls.sent Calls.slot
@@ -364,3 +399,13 @@ course reset w =
     (λ e. by (Course w) _ _ _ (λ e. declined 29) (λ e. carried (carried-resetting w (is-said e)))))
 course (collect y) w =
     by (Course w) _ _ _ (λ e. declined 21) (λ e. by (Course w) _ _ _ (λ e. declined 29) (λ e. course-collect y w))
+
+-- ---- in every call, of any world, at most one sending is told: the sendings of a history are the octets that callers
+-- were told to send
+few-course : {w : World} {d : Called} → Course w d → sendingsIn (d .events) ≤ 1
+unfolding refuse sendingsIn sendingOf
+few-course (declined n) = omega arith
+few-course (carried c) = c .few
+
+pub one-sending : (c : Call) (w : World) → sendingsIn (call c w .events) ≤ 1
+one-sending c w = few-course (course c w)

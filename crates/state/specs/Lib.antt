@@ -12,3 +12,4 @@ pub mod Twelve
 pub mod Counts
 pub mod Waits
 pub mod Precedence
+pub mod Holds

@@ -1,6 +1,6 @@
 -- Runs: a start, then any list of calls, each given the state and the rows with their data as the call before left
--- them. The events of a run are what the callers were told. Assumes nothing.
-use Prim.Native.Nat.{ℕ, _*_}
+-- them. The events of a run are what happened in its calls. Assumes nothing.
+use Prim.Native.Nat.{ℕ, _+_, _*_}
 use mathlib.Core.Bool.{Bool}
 use mathlib.Core.Path.{_≡_}
 use mathlib.Core.List.{List, [], _∷_, _++_}
@@ -12,7 +12,8 @@ use Rattle.times.specs.declared.Settings.{Settings}
 use Rattle.state.specs.declared.Priority.{Priority}
 use Rattle.state.specs.declared.State.{State}
 use Rattle.state.specs.Calls.{Station}
-use Rattle.state.specs.World.{Rows, World, Called, worldOf}
+use Rattle.state.specs.World.{Rows, World, Event, Called, accepted, begins, ends, sends, confirmed, collected}
+use Rattle.state.specs.World.{indicated, resets, refused, worldOf}
 use Rattle.state.specs.Calls as Calls
 
 -- a call after start, with what it is given: submit a request with its data to a queue; a frame with its clock, the
@@ -41,6 +42,22 @@ run (c ∷ l) w =
     let d : Called = call c w in
     let e : Called = run l (d .world) in
     record { world = e .world; events = d .events ++ e .events }
+
+-- how many sendings are among events
+unfoldable pub sendingOf : Event → ℕ
+sendingOf (accepted p n) = 0
+sendingOf begins = 0
+sendingOf ends = 0
+sendingOf (sends x o t) = 1
+sendingOf (confirmed p n status k) = 0
+sendingOf (collected p n r) = 0
+sendingOf (indicated h d) = 0
+sendingOf resets = 0
+sendingOf (refused n) = 0
+
+unfoldable pub sendingsIn : List Event → ℕ
+sendingsIn [] = 0
+sendingsIn (e ∷ l) = sendingOf e + sendingsIn l
 
 -- a world after a start: the state that start gave, and rows as long as it was told
 pub record Begun (w : World) : Type 0 where

@@ -72,8 +72,7 @@ adds (accepted p n) t =
       wait = t .wait;
       indication = t .indication;
       place = n;
-      entry = t
-          .entry;
+      entry = t .entry;
     }
 adds begins t = t
 adds ends t = t
@@ -91,8 +90,7 @@ adds (indicated h p) t =
       wait = t .wait;
       indication = Shown h p;
       place = t .place;
-      entry = t
-          .entry;
+      entry = t .entry;
     }
 adds resets t = t
 adds (refused n) t =
@@ -102,8 +100,7 @@ adds (refused n) t =
       wait = t .wait;
       indication = t .indication;
       place = t .place;
-      entry = t
-          .entry;
+      entry = t .entry;
     }
 
 unfoldable pub telling : List Event → Telling

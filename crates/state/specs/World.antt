@@ -42,9 +42,11 @@ pub data What : Type 0 where
   aToken : What
   aReply : What
 
--- what a caller is told: a request was accepted at a place of a queue; a hold begins, a hold ends; octets are to be
--- sent after a wait; the request at a place was confirmed with its status and its count; its record was collected; a
--- request is indicated; the station was reset; the call was refused
+-- what happens in a call: a request is accepted at a place of a queue; a hold begins, a hold ends; octets are to be sent
+-- after a wait; the request at a place is confirmed with its status and its count; its record is collected; a request is
+-- indicated; the station is reset; the call is refused. A caller is answered the place, the octets and the wait, the
+-- record, the indication and the refusal (`telling` in Told.antt); holds, confirmations and resets are seen by the phase,
+-- by what collect hands back, and by the call
 pub data Event : Type 0 where
   accepted : Priority → ℕ → Event
   begins : Event
@@ -215,6 +217,5 @@ stateWith c s =
       started = s .started;
       marks = s .marks;
       points = s .points;
-      memory = s
-          .memory;
+      memory = s .memory;
     }

@@ -62,7 +62,7 @@ module _ (c : Core) {k : Kept} (masters : List ℕ) {t : List ℕ} (marks : List
 answers-unrefused : {r : Responder} {l : List Event} → Answers r l → telling l .refused ≡ 0
 unfolding telling untold adds replies
 answers-unrefused none = refl
-answers-unrefused (replied o l a) = answers-unrefused a
+answers-unrefused (replied o l e a) = answers-unrefused a
 answers-unrefused (shown h d l a) = answers-unrefused a
 
 module _ {v : Responder} {c : Core} (k : Kept) {masters t marks points : List ℕ} (octets : List ℕ) {high low : Rows}
