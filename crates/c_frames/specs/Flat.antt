@@ -38,8 +38,7 @@ flat (Read (Token d s) p) =
       source = s .0;
       from = NONE;
       control = 0;
-      start = p
-          .start;
+      start = p .start;
       count = p .count;
     }
 flat (Read Short p) =

@@ -118,8 +118,7 @@ module _ (o : Outcome) (x : List ℕ) (c : Core) (marks : List ℕ) (high low : 
           retries = l .retries;
           ts = l .ts;
           high = l .high;
-          low = ruled-confirmed (c .low) h
-              (l .low);
+          low = ruled-confirmed (c .low) h (l .low);
         }
 
     kept-high : 0 < queueOf High c .unconfirmed

@@ -102,8 +102,7 @@ pub goes-on : (c : Call) (line : List ℕ) (h : Held) (high harea low larea text
     → Answers (answerOther c line (deskOf h high harea low larea)) text
     (record {
       held = record { begun = true; high = h .high; low = h .low; state = p .state };
-      length = p
-          .length;
+      length = p .length;
     }) (putMid 0 (SIZE * h .high) high u) (putMid 0 (AREA * h .high) harea ua)
     (putMid 0 (SIZE * h .low) low v) (putMid 0 (AREA * h .low) larea va) text′
 unfolding answerOther started deskOf printing

@@ -143,8 +143,7 @@ module _ (c : Core) (masters started : List ℕ) (k : Kept) (e : lawless c maste
       let n = counted (c .high) (c .low) (k .length) lawful-counted in
       record {
         settings = startable-settings (c .settings) (c .ts .0) masters s;
-        retries = startable-retries (c .settings)
-            (c .ts .0) masters s;
+        retries = startable-retries (c .settings) (c .ts .0) masters s;
         ts = startable-ts (c .settings) (c .ts .0) masters s;
         high = n .0;
         low = n .1 .0;

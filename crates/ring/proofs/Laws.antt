@@ -91,8 +91,7 @@ seek-found l step (suc n) a = by (member l (on step a)) refl (seek-found l step 
           moved = λ p. omega arith;
           within = omega arith;
           is = pick-true _ _ e;
-          between = λ j p h. absurd
-              (omega arith);
+          between = λ j p h. absurd (omega arith);
           there = inl e;
         }
     by false e f = found-next l step n a e f

@@ -72,8 +72,7 @@ module _ (out first second : ℕ) (c : Core) (masters started : List ℕ) (k : K
   underway =
       record {
         awaited = awaited-queued out first second c masters started k high low e;
-        sdn = sdn-queued out first second
-            c masters started k high low e;
+        sdn = sdn-queued out first second c masters started k high low e;
       }
 
 pub listening : (out first second : List ℕ) (c : Core) (masters started : List ℕ) (k : Kept) (high low : Rows)
