@@ -1,3 +1,4 @@
 pub mod Arrays
+pub mod Callers
 pub mod Renewing
 pub mod Standing

@@ -1,2 +1,3 @@
+pub mod Callers
 pub mod Handover
 pub mod Numbers

@@ -13,11 +13,11 @@ use Rattle.state.specs.declared.Renewed.{Renewed}
 use Rattle.state.specs.World.{Rows, Called, rows}
 use Rattle.state.specs.Calls.{collect}
 use Rattle.state.specs.Told.{Leaves, leaves, lent, acceptedOf, submittedOf, handedBackOf, resetOf}
+use Rattle.state.proofs.Beside.{collect-keeps}
 use Rattle.printed_lines.specs.declared.saying.Played.{Played}
 use Rattle.printed_lines.specs.Saying.{plainLine, handedLine, plainOf, handedOf, playing, printing, played}
 use Rattle.printed_lines.proofs.saying.Lines.{line-length, line-left}
 use Rattle.play_queues.specs.Booked.{booked, bookedOf}
-use Rattle.play_queues.proofs.Beside.{collect-keeps}
 
 pub submit-told : (p : Priority) (d : Called) (text : List ℕ) {a : Accepted} {row area text′ : List ℕ} {n : ℕ}
     → left a row area ≡ submittedOf p d → Lays text 0 (plainLine (a .refused)) 8192 n text′

@@ -33,3 +33,5 @@ pub mod Precedence
 pub mod Holds
 pub mod Sendings
 pub mod Apart
+pub mod Beside
+pub mod Callers

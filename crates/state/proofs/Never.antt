@@ -1,12 +1,13 @@
 -- A station refuses no state of its own making: after a start, no call is refused 29. Assumes nothing.
-use Prim.Native.Nat.{ℕ, _+_}
+use Prim.Native.Nat.{ℕ, _+_, _<_}
 use mathlib.Core.Bool.{Bool, true, false, true≢false}
 use mathlib.Core.Path.{_≡_, refl, sym, _∙_}
-use mathlib.Core.List.{List, [], _∷_, _++_}
+use mathlib.Core.List.{List, [], _∷_, _++_, append-nil}
 use native.Mathlib.Omega.{arith}
 use lib.ListN.{length}
 use Rattle.choice.specs.Choice.{pick, same, said}
-use Rattle.choice.proofs.Rules.{pick-true, pick-false, same-false, true-same, false-same, is-said}
+use Rattle.choice.proofs.Rules.{pick-true, pick-false, same-false, true-same, false-same, unrefused}
+use Rattle.choice.proofs.Rules.{is-said}
 use Rattle.times.specs.declared.Settings.{Settings}
 use Rattle.request.specs.declared.Record.{Record}
 use Rattle.request.specs.Record.{unfit, named}
@@ -24,6 +25,7 @@ use Rattle.state.specs.World.{collected, indicated, resets, refused, don
 use Rattle.state.specs.Refusals.{lawless}
 use Rattle.state.specs.Calls as Calls
 use Rattle.state.specs.Calls.{called, refuse, submitting, collecting}
+use Rattle.state.specs.Told.{untold, adds, telling}
 use Rattle.state.specs.Runs.{Call, call, run}
 use Rattle.state.specs.Runs.Call.{submit, frame, sent, slot, reset, collect}
 use Rattle.state.proofs.Cases.{by}
@@ -239,3 +241,40 @@ run-never-29 t ts [] w o = no-29
 run-never-29 t ts (c ∷ l) w o =
     tells-append 29 (call c w .events) (run l (call c w .world) .events) (never-29 t ts w o c)
     (run-never-29 t ts l (call c w .world) (call-orderly t ts c w o))
+
+-- ---- the last call of a run, and the refusal that its caller is told
+tells-behind : (m : ℕ) (a b : List Event) → tells m (a ++ b) ≡ false → tells m b ≡ false
+unfolding tells
+tells-behind m [] b h = h
+tells-behind m (accepted p n ∷ a) b h = tells-behind m a b h
+tells-behind m (begins ∷ a) b h = tells-behind m a b h
+tells-behind m (ends ∷ a) b h = tells-behind m a b h
+tells-behind m (sends x o t ∷ a) b h = tells-behind m a b h
+tells-behind m (confirmed p n s k ∷ a) b h = tells-behind m a b h
+tells-behind m (collected p n r ∷ a) b h = tells-behind m a b h
+tells-behind m (indicated i d ∷ a) b h = tells-behind m a b h
+tells-behind m (resets ∷ a) b h = tells-behind m a b h
+tells-behind m (refused n ∷ a) b h = tells-behind m a b (unrefused (same n m) (tells m (a ++ b)) h .1)
+
+pub tells-last : (m : ℕ) (l : List Call) (c : Call) (w : World) → tells m (run (l ++ (c ∷ [])) w .events) ≡ false
+    → tells m (call c (run l w .world) .events) ≡ false
+unfolding run
+tells-last m [] c w h = rw (append-nil (call c w .events)) at h
+tells-last m (x ∷ l) c w h = tells-last m l c (call x w .world) (tells-behind m (call x w .events) _ h)
+
+untold-by : (m : ℕ) → 0 < m → (l : List Event) → tells m l ≡ false → telling l .refused ≡ m → ⊥
+unfolding tells telling untold adds
+untold-by m h [] f e = omega (arith, h, e)
+untold-by m h (accepted p n ∷ l) f e = untold-by m h l f e
+untold-by m h (begins ∷ l) f e = untold-by m h l f e
+untold-by m h (ends ∷ l) f e = untold-by m h l f e
+untold-by m h (sends x o t ∷ l) f e = untold-by m h l f e
+untold-by m h (confirmed p n s k ∷ l) f e = untold-by m h l f e
+untold-by m h (collected p n r ∷ l) f e = untold-by m h l f e
+untold-by m h (indicated i d ∷ l) f e = untold-by m h l f e
+untold-by m h (resets ∷ l) f e = untold-by m h l f e
+untold-by m h (refused n ∷ l) f e = false-same n m (unrefused (same n m) (tells m l) f .0) e
+
+pub run-untold : (m : ℕ) → 0 < m → (l : List Call) (c : Call) (w : World) → tells m (run (l ++ (c ∷ [])) w .events) ≡ false
+    → telling (call c (run l w .world) .events) .refused ≡ m → ⊥
+run-untold m h l c w f e = untold-by m h _ (tells-last m l c w f) e

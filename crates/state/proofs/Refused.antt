@@ -149,3 +149,17 @@ unsent-by (carried c) h = absurd (true≢false (sym h ∙ told-carried c .told))
 pub refused-output : (c : Call) (w : World) (out : List ℕ) → refuses (call c w .events) ≡ true
     → laid out 0 (telling (call c w .events) .octets) ≡ out
 refused-output c w out h = rw (unsent-by (course c w) h) (laid-nil out 0)
+
+-- a call whose caller is told a number is refused
+pub refusal-told : (l : List Event) → (telling l .refused ≡ 0 → ⊥) → refuses l ≡ true
+unfolding telling adds untold refuses
+refusal-told [] h = absurd (h refl)
+refusal-told (accepted p n ∷ l) h = refusal-told l h
+refusal-told (begins ∷ l) h = refusal-told l h
+refusal-told (ends ∷ l) h = refusal-told l h
+refusal-told (sends x o n ∷ l) h = refusal-told l h
+refusal-told (confirmed p n s k ∷ l) h = refusal-told l h
+refusal-told (collected p n r ∷ l) h = refusal-told l h
+refusal-told (indicated i d ∷ l) h = refusal-told l h
+refusal-told (resets ∷ l) h = refusal-told l h
+refusal-told (refused n ∷ l) h = refl

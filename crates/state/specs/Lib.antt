@@ -13,3 +13,4 @@ pub mod Counts
 pub mod Waits
 pub mod Precedence
 pub mod Holds
+pub mod Callers

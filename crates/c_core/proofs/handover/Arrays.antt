@@ -21,6 +21,7 @@ use Rattle.state.specs.World.{worldOf}
 use Rattle.state.specs.Calls.{called, refuse, submit, collect}
 use Rattle.state.specs.Calls as Calls
 use Rattle.state.specs.Told.{lent, acceptedOf, handedBackOf, submittedOf}
+use Rattle.state.proofs.Beside.{collect-keeps}
 use Rattle.c_core.specs.declared.numbers.Numbers.{Numbers}
 use Rattle.c_core.specs.Handover.{stateIn, flatAccepted, flatCollected, lodged, lodging, submitting, collecting}
 
@@ -89,32 +90,6 @@ unfolding collect
 collect-same p s r =
     same-pick _ (same-refused p 21 s r) (same-pick _ (same-refused p 29 s r) (same-collected p _ s r))
 
--- collect leaves the row too
-same-row : (p : Priority) {r : Rows} (b : Bool) (x y : Called) → rowsOf p (x .world .site) ≡ r
-    → rowsOf p (y .world .site) ≡ r
-    → rowsOf p (pick b x y .world .site) ≡ r
-unfolding pick
-same-row p true x y e f = e
-same-row p false x y e f = f
-
-refused-row : (p : Priority) (k : ℕ) (s : State) (r : Rows) → rowsOf p (refuse k (lent p s r) .world .site) ≡ r
-unfolding refuse lent worldOf rowsOf
-refused-row High k s r = refl
-refused-row Low k s r = refl
-
-collected-row : (p : Priority) (c : Collected) (s : State) (r : Rows)
-    → rowsOf p (called (Calls.collecting p c (lent p s r .site)) (lent p s r) .world .site) ≡ r
-unfolding called Calls.collecting done withCore withSite lent worldOf rowsOf
-collected-row High (Refused n) s r = refl
-collected-row High (Handed n e q) s r = refl
-collected-row Low (Refused n) s r = refl
-collected-row Low (Handed n e q) s r = refl
-
-collect-row : (p : Priority) (s : State) (r : Rows) → rowsOf p (collect p (lent p s r) .world .site) ≡ r
-unfolding collect
-collect-row p s r =
-    same-row p _ _ _ (refused-row p 21 s r) (same-row p _ _ _ (refused-row p 29 s r) (collected-row p _ s r))
-
 -- ---- what they hand over, by what the code finds
 lodging-same : {A : Type 0} (p : Priority) (a : A) {s : State} {d : Called} → Same s d
     → lodged a (s .masters .0) (s .started .0) (s .marks .0) (s .points .0) (s .memory .octets)
@@ -145,6 +120,6 @@ module _ (n : Numbers) (p : Priority) (s : State) (row area : List ℕ) where
   unfolding collecting
   collect-lodged e =
       rw e
-      (rw (collect-row p s (rows row area)) at
+      (rw (collect-keeps s (rows row area) p) at
       (lodging-same p (flatCollected n (handedBackOf (collect p (lent p s (rows row area)))))
       (collect-same p s (rows row area))))
