@@ -10,8 +10,10 @@ use Rattle.choice.proofs.Rules.{passed, false-less}
 use Rattle.frame.specs.declared.Part.{Part}
 use Rattle.frame.specs.declared.Fields.{Fields}
 use Rattle.frame.specs.declared.Fields.the-variants.{Token, Short, Frame}
+use Rattle.frame.specs.declared.Answer.{Answer}
 use Rattle.frame.specs.declared.Answer.the-variants.{Read}
-use Rattle.frame.specs.Format.{octets, unit, body, sd2, unwritable, unwritableToken, SD2, SD3}
+use Rattle.frame.specs.declared.Written.{Written}
+use Rattle.frame.specs.Format.{octets, unit, body, sd2, unwritable, unwritableToken, written, left, SD2, SD3}
 use Rattle.frame.specs.Reading.{read, plain, refusal, shown, octet}
 use Rattle.frame_laws.specs.Terms.{Octets, carried, flip, Summed, Twins}
 use Rattle.frame_laws.specs.Table.{table}
@@ -80,7 +82,11 @@ read-once s t f p q os ot es et e = by (ℕ-discrete (octet s 0) SD3) (ℕ-discr
         inr (inr (record { body = bodyOf f (shown t q); third = a .0; second = cc (written-read s f p os es m, a .1) }))
     by (no m) (no n) = inl (cc (written-read s f p os es m, written-read t f q ot et n))
 
--- (e) each public function's promise is an equation of its result, and one of each buffer that it was lent, with a
--- definition: so two results that meet it are equal
-pub one-result : {A : Type 0} {d r q : A} → r ≡ d → q ≡ d → r ≡ q
-one-result e f = e ∙ sym f
+-- (e) one result: any two answers that meet the reader's promise are equal; and any two that meet a writer's, with what
+-- they leave in the output
+pub one-read : (s : List ℕ) {a b : Answer} → a ≡ read s → b ≡ read s → a ≡ b
+one-read s e f = e ∙ sym f
+
+pub one-written : (f : Fields) (x out : List ℕ) {a b : Written} {o o′ : List ℕ} → a ≡ written f x out
+    → o ≡ left f x out → b ≡ written f x out → o′ ≡ left f x out → (a ≡ b) × (o ≡ o′)
+one-written f x out e i g j = (e ∙ sym g, i ∙ sym j)

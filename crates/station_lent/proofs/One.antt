@@ -10,8 +10,9 @@ use Rattle.state.specs.declared.Heard.{Heard}
 use Rattle.state.specs.declared.Indication.{Indication}
 use Rattle.state.specs.declared.Moved.{Moved}
 use Rattle.state.specs.declared.Spoken.{Spoken}
-use Rattle.state.specs.World.{Rows, Site, World, Event, Done, Called}
-use Rattle.state.specs.Told.{Stands, stands, Does, Says}
+use Rattle.state.specs.declared.Outcome.{Outcome}
+use Rattle.state.specs.World.{Rows, Site, World, Event, Done, Called, rows}
+use Rattle.state.specs.Told.{Stands, stands, Sends, Does, Rechecks, Closes, Says}
 use Rattle.hearing.specs.Hears.{Hears}
 use Rattle.station_lent.specs.Acts.{Acts}
 
@@ -63,11 +64,8 @@ module _ {f : World → Called} {c : Core} {k : Kept} {masters marks points octe
       )
 
 -- ---- the inner functions: an act on the site, and an answer
-lays-place : {l u m m′ : List ℕ} {at n r q : ℕ} → Lays l at u n r m → Lays l at u n q m′ → r ≡ q
-lays-place a b = a .place ∙ sym (b .place)
-
-lays-left : {l u m m′ : List ℕ} {at n r q : ℕ} → Lays l at u n r m → Lays l at u n q m′ → m ≡ m′
-lays-left a b = a .left ∙ sym (b .left)
+pub one-laying : {l u m m′ : List ℕ} {at n r q : ℕ} → Lays l at u n r m → Lays l at u n q m′ → (r ≡ q) × (m ≡ m′)
+one-laying a b = (a .place ∙ sym (b .place), a .left ∙ sym (b .left))
 
 abbrev moved : Core → ℕ → ℕ → Moved
 moved c n t = record { core = c; length = n; wait = record { 0 = t } }
@@ -89,23 +87,48 @@ spoken-same r q e f g h =
     ∙ ap (λ (t : ℕ). spoken (q .kept) (q .length) t (r .indication)) g
     ∙ ap (λ (i : Indication). spoken (q .kept) (q .length) (q .wait .0) i) h
 
+pub one-sends : {c : Core} {e : List Event} {out : List ℕ} {r q : Moved} {x x′ : List ℕ} → Sends c e out r x
+    → Sends c e out q x′ → (r ≡ q) × (x ≡ x′)
+one-sends {r = r} {q = q} a b =
+    let l = one-laying (a .laid) (b .laid) in
+    (moved-same r q (a .core ∙ sym (b .core)) (l .0) (a .wait ∙ sym (b .wait)), l .1)
+
 pub one-doing : {d : Done} {out : List ℕ} {r q : Moved} {m m′ n n′ : List ℕ} {h h′ l l′ : Rows} {x x′ : List ℕ}
     → Does d out r m n h l x → Does d out q m′ n′ h′ l′ x′
     → (r ≡ q) × (m ≡ m′) × (n ≡ n′) × (h ≡ h′) × (l ≡ l′) × (x ≡ x′)
 one-doing {r = r} {q = q} a b =
     let e = a .site ∙ sym (b .site) in (
-      moved-same r q (ap (λ (s : Site). s .core) e) (lays-place (a .laid) (b .laid)) (a .wait ∙ sym (b .wait)),
+      moved-same r q (ap (λ (s : Site). s .core) e) (one-laying (a .laid) (b .laid) .0) (a .wait ∙ sym (b .wait)),
       ap (λ (s : Site). s .masters) e,
       ap (λ (s : Site). s .marks) e,
       ap (λ (s : Site). s .high) e,
       ap (λ (s : Site). s .low) e,
-      lays-left (a .laid) (b .laid),
+      one-laying (a .laid) (b .laid) .1,
     )
 
 pub one-saying : {k : Kept} {e : List Event} {out : List ℕ} {r q : Spoken} {x x′ : List ℕ} → Says k e out r x
     → Says k e out q x′ → (r ≡ q) × (x ≡ x′)
 one-saying {r = r} {q = q} a b = (
-  spoken-same r q (a .kept ∙ sym (b .kept)) (lays-place (a .laid) (b .laid)) (a .wait ∙ sym (b .wait))
+  spoken-same r q (a .kept ∙ sym (b .kept)) (one-laying (a .laid) (b .laid) .0) (a .wait ∙ sym (b .wait))
       (a .indication ∙ sym (b .indication)),
-  lays-left (a .laid) (b .laid),
+  one-laying (a .laid) (b .laid) .1,
 )
+
+-- slot expiry while the pass is checked, which leaves the marks and the rows alone; and a confirmation, which leaves the
+-- masters alone
+pub one-recheck : {c : Core} {masters out : List ℕ} {r q : Moved} {m m′ x x′ : List ℕ} → Rechecks c masters out r m x
+    → Rechecks c masters out q m′ x′ → (r ≡ q) × (m ≡ m′) × (x ≡ x′)
+one-recheck a b =
+    let d = one-doing (a .does [] (rows [] []) (rows [] [])) (b .does [] (rows [] []) (rows [] [])) in
+    (d .0, d .1, d .5)
+
+pub one-closing : {o : Outcome} {x : List ℕ} {c : Core} {marks : List ℕ} {high low : Rows} {d d′ : Core}
+    {n n′ : List ℕ} {h h′ l l′ : Rows} → Closes o x c marks high low d n h l → Closes o x c marks high low d′ n′ h′ l′
+    → (d ≡ d′) × (n ≡ n′) × (h ≡ h′) × (l ≡ l′)
+one-closing a b =
+    let e = a .site [] ∙ sym (b .site []) in (
+      ap (λ (s : Site). s .core) e,
+      ap (λ (s : Site). s .marks) e,
+      ap (λ (s : Site). s .high) e,
+      ap (λ (s : Site). s .low) e,
+    )
