@@ -190,7 +190,7 @@ served w r x p after e =
 
 -- demand 3: "After a start and before any other, if each call is given the station's state and each queue row, data
 -- included, just as the call before left them": of all calls before the request and all calls after it. k is how many
--- high requests were accepted before it and not confirmed, by what the callers were told
+-- high requests were accepted before it and not confirmed, by the events before
 pub demand-3 : (w : World) (b : Begun w) (before after : List Call) (r : Record) (x : List ℕ) (p : ℕ)
     → call (submit High r x) (run before w .world) .events ≡ accepted High p ∷ []
     → Served (lineLast (run before w .events) nobody .waiting) (b .settings .retries .0)

@@ -151,7 +151,7 @@ pub record Ten : Type 0 where
   pub none : timeLeft 1100 100 1000 ≡ false
 
 -- ---- 11 and 12: calls in a row
--- a call, and what its caller is told
+-- a call, and its events
 pub record Step : Type 0 where
   pub call : Call
   pub told : List Event
@@ -168,7 +168,7 @@ unfoldable pub inRow : List (List Event) → List Event
 inRow [] = []
 inRow (e ∷ l) = e ++ inRow l
 
--- what the callers are told, call after call
+-- the events, call after call
 unfoldable pub told : List Call → World → List (List Event)
 told [] w = []
 told (c ∷ l) w = call c w .events ∷ told l (call c w .world)
@@ -265,7 +265,11 @@ acknowledged clock =
     }
     ∷ []
 
--- ---- the twelve; what a case leaves open holds whatever it is
+-- ---- the twelve. Of what the page leaves open, the active access points, the clocks of the slots, of the SDN and of what
+-- is heard in 3 and 4, what stands behind LE 3 and 250, and head and data of the longest frame are any. Fixed are: rows of
+-- four places with all octets 0, room for an indication, no updates, an output of 255 octets, requests without access
+-- points and data, an SDN low with the data 01; in 3 and 4 the ring of the two stations, in 4 all access points active; in
+-- 7 the frame that is read back, of 246 octets 07
 pub record Twelve : Type 0 where
   pub case1 : BothWays string1 fields1 []
   pub case2 : BothWays string2 fields2 []

@@ -1,5 +1,5 @@
--- What a call finds and leaves: the station's state and both rows with their data; and the events that its caller is
--- told of. An act on the site goes from a site to a site and its events; acts in a row are one. Assumes nothing.
+-- What a call finds and leaves: the station's state and both rows with their data; and the events that happen in it. An
+-- act on the site goes from a site to a site and its events; acts in a row are one. Assumes nothing.
 use Prim.Native.Nat.{ℕ}
 use mathlib.Core.List.{List, [], _∷_, _++_}
 use Rattle.frame.specs.declared.Address.{Address}
