@@ -13,17 +13,15 @@ use Rattle.control.specs.declared.Code.the-variants.{Ok, Ue, Rr, Rs, Dl, Nr, Dh
 use Rattle.control.specs.declared.Control.{Control}
 use Rattle.control.specs.declared.Control.the-variants.{Request, Reply}
 use Rattle.control.specs.Control.{codeNumber}
-use Rattle.frame.specs.declared.Access.{Access}
-use Rattle.frame.specs.declared.Access.the-variants.{None, At}
 use Rattle.frame.specs.declared.Address.{Address}
 use Rattle.frame.specs.declared.Head.{Head}
 use Rattle.frame.specs.declared.Part.{Part}
 use Rattle.frame.specs.declared.Fields.{Fields}
 use Rattle.frame.specs.declared.Fields.the-variants.{Token, Short, Frame}
 use Rattle.frame.specs.declared.Answer.the-variants.{Read}
-use Rattle.frame.specs.Format.{extension, unit, body, closing, sd1, sd2, framed, octets, unwritable, unwritableToken}
+use Rattle.frame.specs.Format.{unit, body, closing, sd1, sd2, framed, octets, unwritable, unwritableToken}
 use Rattle.frame.specs.Reading.{read, shown}
-use Rattle.frame.proofs.Lengths.{length-unit}
+use Rattle.frame.proofs.Lengths.{length-extension, length-unit}
 use Rattle.frame_laws.proofs.Body.{writable}
 use Rattle.frame_laws.proofs.Accepted.{accepted, accepted-carried}
 use Rattle.frame_laws.proofs.Theorems.{read-writable}
@@ -145,11 +143,6 @@ lawful-judged s f p ts r e =
     record { status = named-judged ts r f (p .count); low = low-judged ts r f (p .count); short = read-short s f p e }
 
 -- ---- how long a reply is
-length-extension : (a : Access) → length (extension a) ≤ 1
-unfolding extension
-length-extension None = omega arith
-length-extension (At p) = omega arith
-
 length-framed : (b : List ℕ) → length (framed b) ≤ length b + 6
 unfolding framed sd1 sd2 closing
 length-framed b =
@@ -173,7 +166,7 @@ reply-short r h (Coded k) x l =
     let c = length-framed (body (replyHead r h k) (pick (A.carries k) x [])) in
     omega arith
 
-shown-short : (high low : List ℕ) → length high ≤ UPDATE → length low ≤ UPDATE → length (A.shown high low) ≤ UPDATE
+pub shown-short : (high low : List ℕ) → length high ≤ UPDATE → length low ≤ UPDATE → length (A.shown high low) ≤ UPDATE
 unfolding A.shown
 shown-short high low h l = by (λ (x : List ℕ). length x ≤ UPDATE) _ _ _ (λ e. h) (λ e. l)
 

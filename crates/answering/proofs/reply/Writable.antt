@@ -12,18 +12,13 @@ use Rattle.frame.specs.declared.Access.{Access}
 use Rattle.frame.specs.declared.Access.the-variants.{None, At}
 use Rattle.frame.specs.declared.Head.{Head}
 use Rattle.frame.specs.declared.Fields.the-variants.{Frame}
-use Rattle.frame.specs.Format.{extension, unit, outside, misdirected}
-use Rattle.frame.proofs.Lengths.{length-unit}
+use Rattle.frame.specs.Format.{unit, outside, misdirected}
+use Rattle.frame.proofs.Lengths.{length-extension, length-unit}
 use Rattle.write.proofs.Laying.{Laying, Passed, laying-frame}
 use Rattle.state.specs.declared.Responder.{Responder}
 use Rattle.state.specs.Answering.{UPDATE, Answerable, replyHead}
 
--- an access point has at most one octet, and is inside 63 if inside 62
-length-extension : (a : Access) → length (extension a) ≤ 1
-unfolding extension
-length-extension None = omega arith
-length-extension (At p) = omega arith
-
+-- an access point is inside 63 if inside 62
 wider : (a : Access) → outside a 62 ≡ false → outside a 63 ≡ false
 unfolding outside
 wider None e = refl

@@ -3,7 +3,7 @@ use mathlib.Core.Path.{refl, sym, _∙_}
 use Rattle.state.specs.Answering.{answered, answerCounted}
 use Rattle.choice.proofs.Rules.{pick-true, pick-false, said-true, said-false}
 use Rattle.answering.proofs.answers.Says.{answerable, says-nothing}
-use Rattle.answering.proofs.news.Laws.{shown-short}
+use Rattle.state.proofs.Hearing.{shown-short}
 use borrow.Author.Needs.{needs}
 use Rattle.answering.proofs.counted.answer_counted.Statement.{statement}
 use Rattle.answering.proofs.counted.answer_counted.Tie as tie
