@@ -1,22 +1,19 @@
 -- Demand 3: "Nothing starves an urgent order." A high request accepted with k high requests unconfirmed ahead of it is
 -- served, whatever calls come after. Assumes nothing.
-use Prim.Native.Nat.{ℕ, _+_, _*_, _≤_, _<_}
+use Prim.Native.Nat.{ℕ, _+_, _≤_, _<_}
 use mathlib.Core.Bool.{Bool, true, false, true≢false}
 use mathlib.Core.Path.{_≡_, refl, sym, ap, _∙_}
 use mathlib.Core.List.{List, [], _∷_}
 use native.Mathlib.Omega.{arith}
-use lib.ListN.{length}
-use Rattle.choice.proofs.Rules.{pick-true, true-same, false-same, unrefused, is-said}
+use Rattle.choice.proofs.Rules.{pick-true, true-same, false-same, is-said}
 use Rattle.times.specs.declared.Settings.{Settings}
 use Rattle.request.specs.declared.Record.{Record}
-use Rattle.request.specs.Record.{SIZE}
 use Rattle.queue.specs.declared.Queue.{Queue}
 use Rattle.queue.specs.declared.Taken.{Taken}
 use Rattle.queue.specs.Queue as Q
-use Rattle.queue.specs.Queue.{Ruled, take}
+use Rattle.queue.specs.Queue.{take}
 use Rattle.queue.proofs.Laws.{ruled}
 use Rattle.rows.specs.Rows.{Left}
-use Rattle.rows.proofs.Laws.{lent}
 use Rattle.rows.proofs.Submitted.{Outcome, outcome}
 use Rattle.rows.proofs.Submitted.Outcome.{as-it-was, with-it}
 use Rattle.state.specs.declared.Phase.{Phase}
@@ -24,10 +21,9 @@ use Rattle.state.specs.declared.Priority.{Priority}
 use Rattle.state.specs.declared.Priority.the-variants.{High, Low}
 use Rattle.state.specs.declared.Doing.{Doing}
 use Rattle.state.specs.declared.Core.{Core}
-use Rattle.state.specs.declared.Kept.{Kept}
-use Rattle.state.specs.World.{Rows, World, Event, Done, Called, accepted, refused, done, withQueue, queueOf}
+use Rattle.state.specs.World.{World, Event, Done, Called, accepted, refused, done, withQueue, queueOf}
 use Rattle.state.specs.World.{withCore, rowsOf, withRows, withSite}
-use Rattle.state.specs.Refusals.{overcounted, oddIn, lawless, unlent}
+use Rattle.state.specs.Refusals.{oddIn}
 use Rattle.state.specs.Calls as Calls
 use Rattle.state.specs.Calls.{called, refuse, submitting}
 use Rattle.state.specs.Runs.{Call, call, run, Begun}
@@ -35,6 +31,7 @@ use Rattle.state.specs.Runs.Call.{submit}
 use Rattle.state.specs.Fate.{Fate, newborn, fate, Served}
 use Rattle.state.specs.Precedence.{nobody, lineLast}
 use Rattle.state.proofs.Cases.{by}
+use Rattle.state.proofs.Facts.{lent-rows, lawful, lawful-phase}
 use Rattle.state.proofs.Refused.{refuses}
 use Rattle.state.proofs.Precedence.{waiting-is}
 use Rattle.state.proofs.Places.{Rowed, waiting-new, rowed-grown}
@@ -86,26 +83,6 @@ standing-served (gone o) =
     }
 
 -- ---- at its acceptance
-lawful-odd : (c : Core) (masters started : List ℕ) (k : Kept) → lawless c masters started k ≡ false
-    → oddIn (c .doing .phase) c masters ≡ false
-unfolding lawless
-lawful-odd c masters started k e =
-    let a = unrefused _ _ e in
-    let b = unrefused _ _ (a .1) in
-    unrefused _ _ (b .1) .1
-
-lawful-ruled : (c : Core) (masters started : List ℕ) (k : Kept) → lawless c masters started k ≡ false → Ruled (c .high)
-unfolding lawless overcounted
-lawful-ruled c masters started k e =
-    let a = unrefused _ _ e in
-    let b = unrefused _ _ (a .1) in
-    ruled (c .high) (is-said (unrefused _ _ (is-said (unrefused _ _ (b .1) .0)) .0))
-
--- the row is the queue's
-lent-places : (q : Queue) (r : Rows) → unlent q r ≡ false → length (r .row) ≡ SIZE * q .places
-unfolding unlent
-lent-places q r e = lent q (r .row) (r .area) e .places
-
 -- what is being sent from the high queue is in it
 some-sent : (x : Phase) (c : Core) (masters : List ℕ) → oddIn x c masters ≡ false → flight x ≡ true
     → c .doing .served ≡ High → 0 < c .high .unconfirmed
@@ -174,8 +151,8 @@ module _ (p k limit : ℕ) where
   submit-enters r x w e t =
       by (Enters p k limit) _ _ _ (λ b. never-refused 21 w)
       (λ b. by (Enters p k limit) _ _ _ (λ b. never-refused 29 w)
-      (λ d. stands-new _ r x _ w e t (lawful-odd _ _ _ _ (is-said d))
-      (record { ruled = lawful-ruled _ _ _ _ (is-said d); long = lent-places _ _ (is-said b) }) (outcome _ _ r x _ _)))
+      (λ d. stands-new _ r x _ w e t (lawful-phase _ _ _ _ (is-said d))
+      (record { ruled = lawful _ _ _ _ (is-said d) .high; long = lent-rows _ _ (is-said b) .places }) (outcome _ _ r x _ _)))
 
 -- ---- the theorem, of any world that accepts the request
 pub served : (w : World) (r : Record) (x : List ℕ) (p : ℕ) (after : List Call)

@@ -1,4 +1,5 @@
 pub mod Cases
+pub mod Facts
 pub mod Phases
 pub mod Choices
 pub mod Acts

@@ -6,8 +6,8 @@ use mathlib.Core.Path.{_≡_, refl, sym, ap, _∙_}
 use mathlib.Core.List.{List, [], _∷_, _++_}
 use native.Mathlib.Omega.{arith}
 use lib.ListN.{length}
-use Rattle.choice.proofs.Rules.{pick-true, pick-false, true-same, false-same, true-less, false-less, unrefused}
-use Rattle.choice.proofs.Rules.{not-turned, is-said}
+use Rattle.choice.proofs.Rules.{pick-true, pick-false, true-same, false-same, true-less, false-less}
+use Rattle.choice.proofs.Rules.{is-said}
 use Rattle.frame.specs.declared.Part.{Part}
 use Rattle.frame.specs.declared.Fields.{Fields}
 use Rattle.frame.specs.declared.Fields.the-variants.{Token, Short, Frame}
@@ -29,8 +29,6 @@ use Rattle.state.specs.declared.Phase.{Phase}
 use Rattle.state.specs.declared.Phase.the-variants.{Idle, Awaited, Sdn, Check, ToSelf}
 use Rattle.state.specs.declared.Priority.{Priority}
 use Rattle.state.specs.declared.Priority.the-variants.{High, Low}
-use Rattle.state.specs.declared.Core.{Core}
-use Rattle.state.specs.declared.Kept.{Kept}
 use Rattle.state.specs.declared.Choice.{Choice}
 use Rattle.state.specs.declared.Choice.the-variants.{Serve, PassOn}
 use Rattle.state.specs.declared.Outcome.{Outcome as Ending}
@@ -43,7 +41,7 @@ use Rattle.state.specs.Pass.{passEvents, pass, passAgain, recheck}
 use Rattle.state.specs.Hold.{choice, finish, chosen, choose, rest, beginning, begin, token, ended, retry, over, givenUp}
 use Rattle.state.specs.Hold.{concluded}
 use Rattle.state.specs.Answering.{UPDATE, Answered}
-use Rattle.state.specs.Refusals.{unstarted, lawless}
+use Rattle.state.specs.Refusals.{lawless}
 use Rattle.state.specs.Calls as Calls
 use Rattle.state.specs.Calls.{called, replying, refuse, nothing, submitting, collecting, responder, idle}
 use Rattle.state.specs.Calls.{idleRead}
@@ -52,6 +50,7 @@ use Rattle.state.specs.Calls.{drained, forgotten, freshWorld, resetting}
 use Rattle.state.specs.Runs.{Call, call, sendingOf, sendingsIn}
 use Rattle.state.specs.Runs.Call.{submit, frame, sent, slot, reset, collect}
 use Rattle.state.proofs.Cases.{by, Any, any, positive}
+use Rattle.state.proofs.Facts.{lawful-kept}
 use Rattle.state.proofs.Phases.{flight, broken-by}
 use Rattle.state.proofs.Acts.{Point, calm, free, choosing, passing, halting, clearing, Closing, Move, Trail}
 use Rattle.state.proofs.Acts.{stop, move, act, filled}
@@ -257,11 +256,6 @@ unfolding drain confirm
 drain-none zero m l e = sym e
 drain-none (suc n) m l e = drain-none n 0 _ (fewer n (l .answer) e)
 
-among-started : (c : Core) (masters started : List ℕ) (k : Kept) → lawless c masters started k ≡ false
-    → member started (c .ts .0) ≡ true
-unfolding lawless unstarted
-among-started c masters started k e = is-said (not-turned _ (unrefused _ _ (is-said (unrefused _ _ e .0)) .1))
-
 module _ (k : Type 0) where
   halts : (b : Bool) (s t : Site) (l : List Event) → flight (s .core .doing .phase) ≡ b
       → Trail k (clearing (countOf High (s .core)) (countOf Low (s .core))) s l calm t
@@ -336,7 +330,7 @@ pub carried-resetting : (w : World)
     → lawless (w .site .core) (w .site .masters) (w .started) (w .memory .kept) ≡ false → Carried w (resetting w)
 carried-resetting w e =
     record {
-      trail = trail-resetting Any w (λ z. among-started (w .site .core) (w .site .masters) (w .started) _ e);
+      trail = trail-resetting Any w (λ z. lawful-kept (w .site .core) (w .site .masters) (w .started) _ e);
       few = few-resetting w;
       started = reset-rest w .0;
       memory = λ m. reset-rest w .1;

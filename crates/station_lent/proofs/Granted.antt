@@ -11,8 +11,8 @@ use Rattle.state.specs.World.{Rows, World, Called}
 use Rattle.state.specs.Refusals.{refusalIn, refusal}
 use Rattle.state.specs.Calls.{called, refuse, unless, heard, sentIn, slotIn, frame, sent, slot}
 use Rattle.state.specs.Told.{worldIn}
-use Rattle.refusals.proofs.Facts.{sited, output-long, first-short, second-short, reply-short, awaited-queued}
-use Rattle.refusals.proofs.Facts.{sdn-queued}
+use Rattle.state.proofs.Facts.{sited, output-long, first-short, second-short, reply-short, awaited-queued}
+use Rattle.state.proofs.Facts.{sdn-queued}
 use Rattle.phases.specs.Underway.{Underway}
 use Rattle.hearing.specs.Hears.{Listening}
 

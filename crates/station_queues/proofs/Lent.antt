@@ -26,7 +26,7 @@ use Rattle.state.specs.Refusals.{unlent, lawless}
 use Rattle.state.specs.Calls.{noRows, called, submitting, collecting}
 use Rattle.state.specs.Calls as Calls
 use Rattle.state.specs.Told.{telling, adds, untold, lent, acceptedOf, submittedOf, handedBackOf, handOf}
-use Rattle.refusals.proofs.Facts.{lent-rows, lawful, ruled-of}
+use Rattle.state.proofs.Facts.{lent-rows, lawful, ruled-of}
 use Rattle.station_queues.specs.Decided.{refusalOf, taking, handing}
 
 -- two refusals and what follows them, each held against what it stands for

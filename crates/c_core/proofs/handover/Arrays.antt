@@ -20,10 +20,10 @@ use Rattle.state.specs.World.{Rows, World, Event, Done, Called, rows, rowsOf, d
 use Rattle.state.specs.World.{worldOf}
 use Rattle.state.specs.Calls.{called, refuse, submit, collect}
 use Rattle.state.specs.Calls as Calls
-use Rattle.state.specs.Told.{lent, acceptedOf, handedBackOf, submittedOf}
+use Rattle.state.specs.Told.{lent, handedBackOf, submittedOf}
 use Rattle.state.proofs.Beside.{collect-keeps}
 use Rattle.c_core.specs.declared.numbers.Numbers.{Numbers}
-use Rattle.c_core.specs.Handover.{stateIn, flatAccepted, flatCollected, lodged, lodging, submitting, collecting}
+use Rattle.c_core.specs.Handover.{flatAccepted, flatCollected, lodged, lodging, submitting, collecting}
 
 -- the arrays that a call leaves are those of a state
 pub record Same (s : State) (d : Called) : Type 0 where

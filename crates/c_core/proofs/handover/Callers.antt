@@ -2,7 +2,7 @@
 -- tell. Assumes nothing.
 use Prim.Native.Nat.{ℕ}
 use mathlib.Core.Path.{_≡_, refl, sym, ap, _∙_}
-use mathlib.Core.List.{List, [], _∷_}
+use mathlib.Core.List.{List, []}
 use native.Mathlib.Decide.{ℕ-discrete}
 use native.Mathlib.Omega.{arith}
 use lib.ListN.{length}
@@ -17,7 +17,7 @@ use Rattle.state.specs.declared.Accepted.{Accepted}
 use Rattle.state.specs.declared.HandedBack.{HandedBack}
 use Rattle.state.specs.declared.Renewed.{Renewed}
 use Rattle.state.specs.World.{Rows, World, Called, rows, worldOf, stateOf, rowsOf}
-use Rattle.state.specs.Told.{telling, standing, lent, startedOf, acceptedOf, handedBackOf, heardOf, resetOf}
+use Rattle.state.specs.Told.{telling, standing, lent, acceptedOf, handedBackOf, heardOf, resetOf}
 use Rattle.state.specs.Calls.{Station}
 use Rattle.state.specs.Calls as Calls
 use Rattle.state.specs.Runs.{Call, submit, frame, sent, slot, reset, collect, call, run, Begun}

@@ -4,14 +4,14 @@ use Prim.Native.Nat.{ℕ}
 use native.Mathlib.Omega.{arith}
 use mathlib.Core.Bool.{Bool, true, false}
 use mathlib.Core.List.{List, []}
-use mathlib.Core.Path.{_≡_, refl, sym, ap, _∙_}
-use Rattle.choice.specs.Choice.{pick, same}
+use mathlib.Core.Path.{_≡_, refl, ap, _∙_}
+use Rattle.choice.specs.Choice.{pick}
 use Rattle.choice.proofs.Rules.{if-same, unless-same}
 use Rattle.times.specs.declared.Settings.{Settings}
 use Rattle.state.specs.declared.State.{State}
 use Rattle.state.specs.declared.Renewed.{Renewed}
 use Rattle.state.specs.World.{Rows, Called, stateOf, worldOf}
-use Rattle.state.specs.Calls.{Started, Unstarted, Station, refuse, freshWorld, forgotten}
+use Rattle.state.specs.Calls.{Unstarted, Station, refuse, freshWorld, forgotten}
 use Rattle.state.specs.Calls.{resetting as Calls·resetting, start, reset}
 use Rattle.state.specs.Told.{Leaves, leaves, startedOf, resetOf}
 use Rattle.c_core.specs.declared.numbers.Numbers.{Numbers}

@@ -1,7 +1,7 @@
 -- `refusals::in_flight` meets its contract. Assumes nothing.
 use native.Mathlib.Omega.{arith}
 use mathlib.Core.Path.{_≡_}
-use Rattle.refusals.proofs.Facts.{ruled-of, flight-high, flight-low}
+use Rattle.state.proofs.Facts.{ruled-of, flight-high, flight-low}
 use Rattle.state.specs.World.{queueOf}
 use borrow.Author.Needs.{needs}
 use Rattle.refusals.proofs.in_flight.Statement.{statement}

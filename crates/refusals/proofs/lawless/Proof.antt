@@ -1,6 +1,6 @@
 -- `refusals::lawless` meets its contract. Assumes nothing.
 use mathlib.Core.Path.{sym, _∙_}
-use Rattle.refusals.proofs.Facts.{startable-ts, started-startable}
+use Rattle.state.proofs.Facts.{startable-ts, started-startable}
 use Rattle.state.specs.Refusals.{lawless}
 use Rattle.choice.proofs.Rules.{picks, asked}
 use borrow.Author.Needs.{needs}

@@ -1,6 +1,6 @@
 -- `refusals::refusal` meets its contract. Assumes nothing.
 use mathlib.Core.Path.{sym, _∙_}
-use Rattle.refusals.proofs.Facts.{lent-rows, lawful}
+use Rattle.state.proofs.Facts.{lent-rows, lawful}
 use Rattle.state.specs.Refusals.{refusalIn}
 use Rattle.choice.proofs.Rules.{picks, asked}
 use borrow.Author.Needs.{needs}

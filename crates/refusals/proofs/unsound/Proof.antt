@@ -1,9 +1,8 @@
 -- `refusals::unsound` meets its contract: the record in flight is asked first, which makes no difference. Assumes
 -- nothing.
-use mathlib.Core.Path.{sym, _∙_}
 use Rattle.state.specs.Refusals.{soundIn, unsound}
 use Rattle.choice.proofs.Rules.{picks, asked, denied-false}
-use Rattle.refusals.proofs.Facts.{unlike-unsound}
+use Rattle.state.proofs.Facts.{unlike-unsound}
 use borrow.Author.Needs.{needs}
 use Rattle.refusals.proofs.unsound.Statement.{statement}
 use Rattle.refusals.proofs.unsound.Tie as tie

@@ -1,6 +1,6 @@
 -- `refusals::unstarted` meets its contract. Assumes nothing.
 use mathlib.Core.Path.{sym, _∙_}
-use Rattle.refusals.proofs.Facts.{startable-ts}
+use Rattle.state.proofs.Facts.{startable-ts}
 use Rattle.state.specs.Refusals.{unstarted}
 use Rattle.choice.proofs.Rules.{picks, asked}
 use borrow.Author.Needs.{needs}

@@ -1,7 +1,7 @@
 -- `station_lent::sent` meets its contract. Assumes nothing.
 use mathlib.Core.Path.{sym, _∙_}
 use Rattle.state.proofs.Refused.{calm-sent}
-use Rattle.refusals.proofs.Facts.{sited, output-long}
+use Rattle.state.proofs.Facts.{sited, output-long}
 use Rattle.hearing.proofs.idle.Standing.{stands-refused, stands-does}
 use Rattle.station_lent.proofs.Granted.{sent-granted, sent-denied, underway}
 use borrow.Author.Needs.{needs}

@@ -1,5 +1,5 @@
 -- `station_start::resetting::reset` meets its contract. Assumes nothing.
-use Rattle.refusals.proofs.Facts.{lawful, lent-rows}
+use Rattle.state.proofs.Facts.{lawful, lent-rows}
 use Rattle.station_start.proofs.resetting.Renewal.{ready, reset-refused, reset-renewed}
 use borrow.Author.Needs.{needs}
 use Rattle.station_start.proofs.resetting.reset.Statement.{statement}

@@ -1,7 +1,7 @@
 -- `station_start::starting::start` meets its contract. Assumes nothing.
 use mathlib.Core.Path.{sym, _∙_}
 use Rattle.choice.proofs.Rules.{picks, asked, asked-false, unless-same, unless-less}
-use Rattle.refusals.proofs.Facts.{startable-ts}
+use Rattle.state.proofs.Facts.{startable-ts}
 use Rattle.station_start.proofs.starting.Started.{started-as, started-fresh}
 use borrow.Author.Needs.{needs}
 use Rattle.station_start.proofs.starting.start.Statement.{statement}

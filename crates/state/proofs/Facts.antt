@@ -5,28 +5,27 @@ use mathlib.Core.List.{List}
 use mathlib.Core.Path.{_≡_, refl, sym}
 use Rattle.choice.specs.Choice.{pick, said}
 use native.Mathlib.Omega.{arith}
-use Rattle.choice.proofs.Rules.{false-less, true-same, false-same, passed, unrefused, granted, is-said, not-turned}
-use Rattle.ring.specs.Ring.{member, nextOf}
+use Rattle.choice.proofs.Rules.{false-less, false-same, passed, unrefused, granted, is-said, not-turned}
+use Rattle.ring.specs.Ring.{member}
 use Rattle.times.specs.declared.Settings.{Settings}
 use Rattle.times.specs.Times.{Small}
 use Rattle.times.proofs.Rules.{ruly-small, ruly-retries}
 use Rattle.request.specs.declared.Record.{Record}
-use Rattle.request.specs.Record.{SDN}
 use Rattle.queue.specs.declared.Queue.{Queue}
 use Rattle.queue.specs.Queue.{Ruled, current}
 use Rattle.queue.proofs.Laws.{ruled}
 use Rattle.rows.specs.Rows.{Lent, at}
 use Rattle.rows.proofs.Laws.{lent}
 use Rattle.state.specs.declared.Phase.{Phase}
-use Rattle.state.specs.declared.Phase.the-variants.{Awaited, Sdn, Check, ToSelf}
+use Rattle.state.specs.declared.Phase.the-variants.{Awaited, Sdn}
 use Rattle.state.specs.declared.Priority.{Priority}
 use Rattle.state.specs.declared.Priority.the-variants.{High, Low}
 use Rattle.state.specs.declared.Core.{Core}
 use Rattle.state.specs.declared.Kept.{Kept}
 use Rattle.state.specs.World.{Rows, queueOf}
 use Rattle.state.specs.Answering.{UPDATE}
-use Rattle.state.specs.Refusals.{Lawful, Sited, unstartable, unlent, cramped, unstarted, misaddressed, overcounted}
+use Rattle.state.specs.Refusals.{Lawful, Sited, unstartable, unlent, cramped, unstarted, overcounted}
 use Rattle.state.specs.Refusals.{oddIn, lawless, soundIn, unlikeIn, rowBy, inFlight, unsound, refusalIn}
 
 -- ---- 20
 module _ (s : Settings) (ts : ℕ) (masters : List ℕ) (e : unstartable s ts masters ≡ false) where
@@ -43,12 +42,6 @@ module _ (s : Settings) (ts : ℕ) (masters : List ℕ) (e : unstartable s ts ma
   startable-ts =
       let a = unrefused _ _ e in
       omega (arith, false-less 126 ts (unrefused _ _ (a .1) .0))
-
-  pub startable-member : member masters ts ≡ true
-  unfolding unstartable
-  startable-member =
-      let a = unrefused _ _ e in
-      is-said (not-turned _ (unrefused _ _ (a .1) .1))
 
 -- ---- 21
 pub lent-rows : (q : Queue) (r : Rows) → unlent q r ≡ false → Lent q (r .row) (r .area)
@@ -76,15 +69,6 @@ started-member : (c : Core) (masters started : List ℕ) → unstarted c masters
 unfolding unstarted
 started-member c masters started e = is-said (not-turned _ (unrefused _ _ e .1))
 
-addressed : (ps stranger source : ℕ) → misaddressed ps stranger source ≡ false
-    → (ps ≤ 126) × ((stranger ≤ 127) × (source ≤ 127))
-unfolding misaddressed
-addressed ps stranger source e =
-    let a = unrefused _ _ e in
-    let b = unrefused _ _ (a .1) in
-    let d = unrefused _ _ (b .1) in
-    (false-less 126 ps (a .0), (false-less 127 stranger (b .0), false-less 127 source (d .0)))
-
 counted : (high low : Queue) (reply : ℕ) → overcounted high low reply ≡ false
     → (Ruled high) × ((Ruled low) × (reply ≤ 255))
 unfolding overcounted
@@ -104,24 +88,10 @@ module _ (p : Phase) (c : Core) (masters : List ℕ) where
   unfolding oddIn
   even-sdn h e = omega (arith, false-same (queueOf (c .doing .served) c .unconfirmed) 0 (rw h at e))
 
-  even-check : p ≡ Check → oddIn p c masters ≡ false → nextOf masters (c .ts .0) ≡ c .ts .0 → ⊥
-  unfolding oddIn
-  even-check h e = false-same _ _ (rw h at e)
-
-  even-self : p ≡ ToSelf → oddIn p c masters ≡ false → nextOf masters (c .ts .0) ≡ c .ts .0
-  unfolding oddIn
-  even-self h e = true-same _ _ (not-turned _ (rw h at e))
-
 module _ (c : Core) (masters started : List ℕ) (k : Kept) (e : lawless c masters started k ≡ false) where
   lawful-started : unstarted c masters started ≡ false
   unfolding lawless
   lawful-started = is-said (unrefused _ _ e .0)
-
-  lawful-addressed : misaddressed (c .ps .0) (c .stranger .0) (k .source .0) ≡ false
-  unfolding lawless
-  lawful-addressed =
-      let a = unrefused _ _ e in
-      is-said (unrefused _ _ (a .1) .0)
 
   lawful-counted : overcounted (c .high) (c .low) (k .length) ≡ false
   unfolding lawless
@@ -130,7 +100,7 @@ module _ (c : Core) (masters started : List ℕ) (k : Kept) (e : lawless c maste
       let b = unrefused _ _ (a .1) in
       is-said (unrefused _ _ (b .1) .0)
 
-  lawful-phase : oddIn (c .doing .phase) c masters ≡ false
+  pub lawful-phase : oddIn (c .doing .phase) c masters ≡ false
   unfolding lawless
   lawful-phase =
       let a = unrefused _ _ e in
@@ -149,23 +119,11 @@ module _ (c : Core) (masters started : List ℕ) (k : Kept) (e : lawless c maste
         low = n .1 .0;
       }
 
-  -- TS is in the set in force and in the one kept for reset
-  pub lawful-member : member masters (c .ts .0) ≡ true
-  lawful-member = startable-member (c .settings) (c .ts .0) masters (started-startable c masters started lawful-started)
-
+  -- TS is in the set kept for reset
   pub lawful-kept : member started (c .ts .0) ≡ true
   lawful-kept = started-member c masters started lawful-started
 
-  -- the addresses and the remembered reply
-  pub lawful-ps : c .ps .0 ≤ 126
-  lawful-ps = addressed (c .ps .0) (c .stranger .0) (k .source .0) lawful-addressed .0
-
-  pub lawful-stranger : c .stranger .0 ≤ 127
-  lawful-stranger = addressed (c .ps .0) (c .stranger .0) (k .source .0) lawful-addressed .1 .0
-
-  pub lawful-source : k .source .0 ≤ 127
-  lawful-source = addressed (c .ps .0) (c .stranger .0) (k .source .0) lawful-addressed .1 .1
-
+  -- the remembered reply
   pub lawful-reply : k .length ≤ 255
   lawful-reply = counted (c .high) (c .low) (k .length) lawful-counted .1 .1
 
@@ -175,13 +133,6 @@ module _ (c : Core) (masters started : List ℕ) (k : Kept) (e : lawless c maste
 
   pub lawful-sdn : c .doing .phase ≡ Sdn → 0 < queueOf (c .doing .served) c .unconfirmed
   lawful-sdn h = even-sdn (c .doing .phase) c masters h lawful-phase
-
-  -- the token whose pass is checked goes to another, the one to self to TS
-  pub lawful-check : c .doing .phase ≡ Check → nextOf masters (c .ts .0) ≡ c .ts .0 → ⊥
-  lawful-check h = even-check (c .doing .phase) c masters h lawful-phase
-
-  pub lawful-self : c .doing .phase ≡ ToSelf → nextOf masters (c .ts .0) ≡ c .ts .0
-  lawful-self h = even-self (c .doing .phase) c masters h lawful-phase
 
 -- each queue of a lawful core is ruled
 pub ruled-of : (c : Core) (p : Priority) → Lawful c → Ruled (queueOf p c)
@@ -209,14 +160,6 @@ module _ (c : Core) (high low : List ℕ) {r : Record} {p : ℕ} {q : Queue} (a 
   unfolding inFlight
   flight-low h e = rw (e, b, a, row-low _ high low h)
 
-like-awaited : (p : Phase) (service : ℕ) → p ≡ Awaited → unlikeIn p service ≡ false → service ≡ SDN → ⊥
-unfolding unlikeIn
-like-awaited p service h e = false-same service SDN (rw h at e)
-
-like-sdn : (p : Phase) (service : ℕ) → p ≡ Sdn → unlikeIn p service ≡ false → service ≡ SDN
-unfolding unlikeIn
-like-sdn p service h e = true-same service SDN (not-turned _ (rw h at e))
-
 module _ (c : Core) (high low : List ℕ) (e : unsound c high low ≡ false) where
   sound-high : soundIn (c .ts .0) (c .high) high ≡ true
   unfolding unsound
@@ -227,12 +170,6 @@ module _ (c : Core) (high low : List ℕ) (e : unsound c high low ≡ false) whe
   sound-low =
       let a = granted _ _ e in
       is-said (granted _ _ (a .1) .0)
-
-  like-phase : unlikeIn (c .doing .phase) (inFlight c high low .service) ≡ false
-  unfolding unsound
-  like-phase =
-      let a = granted _ _ e in
-      granted _ _ (a .1) .1
 
 -- ---- no refusal
 module _ (out first second : ℕ) (c : Core) (masters started : List ℕ) (k : Kept) (high low : Rows)
@@ -279,26 +216,12 @@ module _ (out first second : ℕ) (c : Core) (masters started : List ℕ) (k : K
   pub reply-short : k .length ≤ 255
   reply-short = lawful-reply c masters started k not-lawless
 
-  -- a request is being sent: it is in the queue, and it is no SDN while its reply is awaited, and one while that goes
-  -- out
+  -- a request that is being sent is in the queue
   pub awaited-queued : c .doing .phase ≡ Awaited → 0 < queueOf (c .doing .served) c .unconfirmed
   awaited-queued h = lawful-awaited c masters started k not-lawless h
 
-  pub awaited-no-sdn : c .doing .phase ≡ Awaited → inFlight c (high .row) (low .row) .service ≡ SDN → ⊥
-  awaited-no-sdn h = like-awaited (c .doing .phase) _ h (like-phase c (high .row) (low .row) not-unsound)
-
   pub sdn-queued : c .doing .phase ≡ Sdn → 0 < queueOf (c .doing .served) c .unconfirmed
   sdn-queued h = lawful-sdn c masters started k not-lawless h
-
-  pub sdn-is-sdn : c .doing .phase ≡ Sdn → inFlight c (high .row) (low .row) .service ≡ SDN
-  sdn-is-sdn h = like-sdn (c .doing .phase) _ h (like-phase c (high .row) (low .row) not-unsound)
-
-  -- the token whose pass is checked goes to another, the one to self to TS
-  pub check-another : c .doing .phase ≡ Check → nextOf masters (c .ts .0) ≡ c .ts .0 → ⊥
-  check-another h = lawful-check c masters started k not-lawless h
-
-  pub self-itself : c .doing .phase ≡ ToSelf → nextOf masters (c .ts .0) ≡ c .ts .0
-  self-itself h = lawful-self c masters started k not-lawless h
 
 -- ---- 29, by the records, whichever is asked first
 either-way : (a b : Bool) {u : Bool} → u ≡ true → true ≡ pick (said a) (pick (said b) u true) true
