@@ -64,7 +64,7 @@ module _ {g : Ground} (a : Account g) where
   unfolding Right
   kept-more h e l m k = record { right = (m, k .right); at = rw (a .more e l h) (k .at) }
 
-  kept-trail : {p q : Point} {s t : Site} {l : List Event} → Trail Any p s l q t → (h : a .History) → g .Given p s
+  pub kept-trail : {p q : Point} {s t : Site} {l : List Event} → Trail Any p s l q t → (h : a .History) → g .Given p s
       → a .At p s h → Kept h l q t
   kept-trail stop h z i = kept-none h _ _ i
   kept-trail (move m r) h z i = kept-trail r h (g .moved m z) (a .moves m h z i)
@@ -81,7 +81,7 @@ module _ {g : Ground} (a : Account g) where
   kept-course (carried c) h z i = kept-trail (c .trail) h z i
 
 -- ---- the ground
-given-trail : (g : Ground) {p q : Point} {s t : Site} {l : List Event} → Trail Any p s l q t → g .Given p s
+pub given-trail : (g : Ground) {p q : Point} {s t : Site} {l : List Event} → Trail Any p s l q t → g .Given p s
     → g .Given q t
 given-trail g stop z = z
 given-trail g (move m r) z = given-trail g r (g .moved m z)

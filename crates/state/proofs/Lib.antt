@@ -36,3 +36,9 @@ pub mod Sendings
 pub mod Apart
 pub mod Beside
 pub mod Callers
+pub mod Spans
+pub mod Effects
+pub mod Lasting
+pub mod Entries
+pub mod Staying
+pub mod Solely

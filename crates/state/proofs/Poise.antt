@@ -189,7 +189,7 @@ closing-named (replied n x a b c) = a
 closing-named lost = named-NA
 closing-named gone = named-OK
 
-closing-short : {p : Phase} {o : Outcome} {x : List ℕ} → Closing p o x → length x ≤ AREA
+pub closing-short : {p : Phase} {o : Outcome} {x : List ℕ} → Closing p o x → length x ≤ AREA
 closing-short (replied n x a b c) = c
 closing-short lost = omega arith
 closing-short gone = omega arith

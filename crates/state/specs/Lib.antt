@@ -14,3 +14,4 @@ pub mod Waits
 pub mod Precedence
 pub mod Holds
 pub mod Callers
+pub mod Submitted
