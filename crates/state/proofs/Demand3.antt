@@ -100,7 +100,7 @@ stage-new k limit g true Low h e s =
     lower h e (record { fresh = fresh-born; time = omega arith; slack = λ z. absurd (true≢false (sym z)) })
 
 -- the place in an acceptance
-placed : List Event → ℕ
+unfoldable pub placed : List Event → ℕ
 placed [] = 0
 placed (accepted y n ∷ l) = n
 placed (Event.begins ∷ l) = 0

@@ -42,3 +42,6 @@ pub mod Lasting
 pub mod Entries
 pub mod Staying
 pub mod Solely
+pub mod Entering
+pub mod Submitted
+pub mod Ledger
