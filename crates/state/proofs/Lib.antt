@@ -44,4 +44,5 @@ pub mod Staying
 pub mod Solely
 pub mod Entering
 pub mod Submitted
+pub mod Confirmed
 pub mod Ledger
