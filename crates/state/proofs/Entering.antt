@@ -1,5 +1,5 @@
 -- What submit does: it is refused, or its record and data lie at the place of an accepted request. Assumes nothing.
-use Prim.Native.Nat.{ℕ, _+_, _≤_}
+use Prim.Native.Nat.{ℕ, _+_}
 use mathlib.Core.Bool.{true≢false}
 use mathlib.Core.Path.{_≡_, ap}
 use mathlib.Core.List.{List, [], _∷_}
@@ -7,11 +7,11 @@ use native.Mathlib.Omega.{arith}
 use lib.ListN.{length}
 use Rattle.choice.proofs.Rules.{true-same}
 use Rattle.request.specs.declared.Record.{Record}
-use Rattle.request.proofs.Laws.{fit-short}
+use Rattle.request.specs.Record.{unfit}
 use Rattle.queue.specs.declared.Queue.{Queue}
 use Rattle.queue.specs.declared.Taken.{Taken}
 use Rattle.queue.specs.Queue as Q
-use Rattle.queue.specs.Queue.{AREA, place, grown, take}
+use Rattle.queue.specs.Queue.{place, grown, take}
 use Rattle.queue.proofs.Laws.{Accepted, place-below}
 use Rattle.rows.specs.Rows.{Left}
 use Rattle.rows.proofs.Laws.{at-put, content-fill}
@@ -90,12 +90,13 @@ unfolding withRows withCore withQueue queueOf rowsOf queueBy rowsBy take
 open-there High r x s f a = open-new _ _ f r x a
 open-there Low r x s f a = open-new _ _ f r x a
 
--- accepted at place n, it waits there, and its data are not too long
+-- accepted at place n, it waits there, and it is fit
 pub entered : {y : Priority} {r : Record} {x : List ℕ} {w : World} {d : Called} (n : ℕ)
     → Filed (w .site .core .ts .0) (queueAt y (w .site)) (rowsAt y (w .site)) → Submission y r x w d
     → d .events ≡ accepted y n ∷ []
-    → Open n r x (queueAt y (d .world .site)) (rowsAt y (d .world .site)) × (length x ≤ AREA)
+    → Open n r x (queueAt y (d .world .site)) (rowsAt y (d .world .site))
+    × (unfit (w .site .core .ts .0) r (length x) ≡ 0)
 unfolding called withSite done refuse refuses placed
 entered n f (declines m) e = absurd (true≢false (ap refuses e))
 entered {y} {r} {x} {w} n f (admits a) e =
-    (rw (← ap placed e) (open-there y r x (w .site) f a), omega (arith, fit-short _ r _ (a .fit)))
+    (rw (← ap placed e) (open-there y r x (w .site) f a), a .fit)

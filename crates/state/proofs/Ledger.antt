@@ -11,6 +11,7 @@ use Rattle.choice.proofs.Rules.{same-false, pick-true, pick-false}
 use Rattle.times.specs.declared.Settings.{Settings}
 use Rattle.frame.specs.declared.Address.{Address}
 use Rattle.request.specs.declared.Record.{Record}
+use Rattle.request.specs.Record.{unfit}
 use Rattle.request.proofs.Laws.{fit-short}
 use Rattle.queue.specs.declared.Queue.{Queue}
 use Rattle.queue.specs.declared.Collected.{Collected}
@@ -32,7 +33,7 @@ use Rattle.state.specs.Counts.{alike}
 use Rattle.state.specs.Runs.{Call, call, run, Begun}
 use Rattle.state.specs.Runs.Call.{submit, frame, sent, slot, reset, collect}
 use Rattle.state.specs.Submitted.{accepts, collects, never, Entry, blank, entry, enters, ledger}
-use Rattle.state.specs.Submitted.{CarriesEntry, OfEntry}
+use Rattle.state.specs.Submitted.{CarriesEntry, ReadsEntry, OfEntry}
 use Rattle.state.proofs.Cases.{by}
 use Rattle.state.proofs.Acts.{taking, grownBy}
 use Rattle.state.proofs.Filed.{Filed}
@@ -49,6 +50,7 @@ use Rattle.state.proofs.Lasting.{Lasts, filed-at, lasts-call, lasts-tol
 use Rattle.state.proofs.Staying.{alike-itself, Asks, itself, asked-sent, asked-collected, asks-refused}
 use Rattle.state.proofs.Staying.{asks-effect, Held, pending, held-of, held-carries, held-lasts}
 use Rattle.state.proofs.Solely.{files, filing, solely, unfiled-before}
+use Rattle.state.proofs.Writable.{reads}
 use Rattle.state.proofs.Entering.{open-new, Submission, declines, admits, submission}
 
 -- an acceptance
@@ -66,7 +68,7 @@ enrols (refused n) = false
 -- ---- at place n lies a record of the entry's request, and while it waits its data
 unfoldable HeldBy : Entry → Priority → ℕ → ℕ → Queue → Rows → Type 0
 HeldBy blank y n ts q u = ⊥
-HeldBy (entry r x) y n ts q u = (length x ≤ AREA) × Held y n ts r x q u
+HeldBy (entry r x) y n ts q u = (unfit ts r (length x) ≡ 0) × Held y n ts r x q u
 
 -- so it is at each place in use
 record Booked (y : Priority) (ts : ℕ) (l : ℕ → Entry) (q : Queue) (u : Rows) : Type 0 where
@@ -157,7 +159,7 @@ module _ (y : Priority) (ts : ℕ) where
   unfolding accepts never
   met-by n = pick-true _ _ (itself y n)
 
-  module _ (a : Address) (q : Queue) (u : Rows) (f : Filed (a .0) q u) (r : Record) (x : List ℕ)
+  module _ (a : Address) (i : a .0 ≡ ts) (q : Queue) (u : Rows) (f : Filed (a .0) q u) (r : Record) (x : List ℕ)
       (g : Accepted (a .0) q r (length x)) (l : ℕ → Entry) (z : Booked y ts l q u) where
     abbrev last : ℕ
     last = place q (q .confirmed + q .unconfirmed)
@@ -175,7 +177,7 @@ module _ (y : Priority) (ts : ℕ) where
 
     new : HeldBy (entering r x (accepted y last ∷ []) l last) y last ts (grown q) (takenBy q u r x)
     unfolding HeldBy
-    new = rw (pick-false (l last) (entry r x) (met-by last)) (short, pending (open-new q u f r x g))
+    new = rw (pick-false (l last) (entry r x) (met-by last)) (rw i at (g .fit), pending (open-new q u f r x g))
 
     new-at : (t : ℕ) → t ≡ q .confirmed + q .unconfirmed
         → HeldBy (entering r x (accepted y last ∷ []) l (place q t)) y (place q t) ts (grown q) (takenBy q u r x)
@@ -195,17 +197,17 @@ foreign : (y z : Priority) (n m : ℕ) → alike y z ≡ false → never (accept
 unfolding accepts
 foreign y z n m h = never-one (accepts y n) (accepted z m) (pick-false _ _ h)
 
-module _ (ts : ℕ) (r : Record) (x : List ℕ) (w : World) (l : ℕ → Entry) where
+module _ (ts : ℕ) (r : Record) (x : List ℕ) (w : World) (i : w .site .core .ts .0 ≡ ts) (l : ℕ → Entry) where
   booked-admitted : (y z : Priority) → Filed (w .site .core .ts .0) (queueAt y (w .site)) (rowsAt y (w .site))
       → Accepted (w .site .core .ts .0) (queueOf z (w .site .core)) r (length x)
       → Booked y ts l (queueAt y (w .site)) (rowsAt y (w .site))
       → Booked y ts (entering y ts r x (accepted z (taking z r x (w .site) .answer .place) ∷ []) l)
       (queueAt y (grownBy z r x (w .site))) (rowsAt y (grownBy z r x (w .site)))
   unfolding withRows withCore withQueue queueOf rowsOf queueBy rowsBy take alike
-  booked-admitted High High f g b = booked-taken High ts (w .site .core .ts) _ _ f r x g l b
+  booked-admitted High High f g b = booked-taken High ts (w .site .core .ts) i _ _ f r x g l b
   booked-admitted High Low f g b = booked-like High ts l _ (λ n. pick-true _ _ (foreign High Low n _ refl)) b
   booked-admitted Low High f g b = booked-like Low ts l _ (λ n. pick-true _ _ (foreign Low High n _ refl)) b
-  booked-admitted Low Low f g b = booked-taken Low ts (w .site .core .ts) _ _ f r x g l b
+  booked-admitted Low Low f g b = booked-taken Low ts (w .site .core .ts) i _ _ f r x g l b
 
   booked-submission : {d : Called} (y z : Priority)
       → Filed (w .site .core .ts .0) (queueAt y (w .site)) (rowsAt y (w .site)) → Submission z r x w d
@@ -263,7 +265,7 @@ module _ (t : Settings) (ts : ℕ) (y : Priority) where
       → BookedAt (λ n. enters y n c (call c w .events) (l n)) (call c w .world)
   unfolding enters filing
   booked-call (submit z r x) w l o b =
-      booked-submission ts r x w l y z (filed-at t ts y (w .site) (o .firm)) (submission z r x w) b
+      booked-submission ts r x w (o .firm .station) l y z (filed-at t ts y (w .site) (o .firm)) (submission z r x w) b
   booked-call (frame clock room high low octets out) w l o b =
       booked-other (frame clock room high low octets out) w l o b (unenrolled _ w refl)
   booked-call (sent clock out) w l o b = booked-other (sent clock out) w l o b (unenrolled _ w refl)
@@ -286,6 +288,12 @@ unfolding queueBy emptyQueue
 booked-begun High ts w l b = record { booked = λ t i. absurd (omega (arith, rw (begun-queues w b .0) at i)) }
 booked-begun Low ts w l b = record { booked = λ t i. absurd (omega (arith, rw (begun-queues w b .1) at i)) }
 
+reads-entry : (ts : ℕ) (p : Priority) (e : Entry) (o : List ℕ) → ts ≤ 126 → CarriesEntry ts p e o
+    → ReadsEntry ts p e o
+unfolding CarriesEntry ReadsEntry
+reads-entry ts p blank o t c = c
+reads-entry ts p (entry r x) o t c = reads ts p r x o t c
+
 -- ---- the theorems: after a start and any calls comes a call
 module _ (w : World) (b : Begun w) (before : List Call) (c : Call) (p : Priority) (n : ℕ)
     (earlier later : List Event) where
@@ -307,6 +315,12 @@ module _ (w : World) (b : Begun w) (before : List Call) (c : Call) (p : Priority
       → call c (run before w .world) .events ≡ earlier ++ (sends (aRequest p n) o t ∷ later)
       → CarriesEntry (b .ts) p (ledger p n before w blank) o
   sent-as-entered o t i = asked-sent p n _ _ o t (asked (sends (aRequest p n) o t) i)
+
+  -- and a reader takes them for the frame that was meant
+  pub read-as-entered : (o : List ℕ) (t : ℕ)
+      → call c (run before w .world) .events ≡ earlier ++ (sends (aRequest p n) o t ∷ later)
+      → ReadsEntry (b .ts) p (ledger p n before w blank) o
+  read-as-entered o t i = reads-entry (b .ts) p _ o (begun-orderly w b .small) (sent-as-entered o t i)
 
   -- where it hands back a record of that place, that is of the same request
   pub handed-as-entered : (r : Record)

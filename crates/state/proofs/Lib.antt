@@ -42,6 +42,7 @@ pub mod Lasting
 pub mod Entries
 pub mod Staying
 pub mod Solely
+pub mod Writable
 pub mod Entering
 pub mod Submitted
 pub mod Confirmed

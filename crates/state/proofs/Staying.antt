@@ -4,11 +4,14 @@ use Prim.Native.Nat.{ℕ, _<_, _≤_}
 use mathlib.Core.Bool.{Bool, true, false, true≢false}
 use mathlib.Core.Path.{_≡_, refl, sym, _∙_}
 use mathlib.Core.List.{List}
+use native.Mathlib.Omega.{arith}
 use lib.ListN.{length}
 use Rattle.choice.specs.Choice.{same, both}
 use Rattle.choice.proofs.Rules.{same-true, true-same, false-same, pick-true, both-true}
 use Rattle.frame.specs.declared.Address.{Address}
 use Rattle.request.specs.declared.Record.{Record}
+use Rattle.request.specs.Record.{unfit}
+use Rattle.request.proofs.Laws.{fit-short}
 use Rattle.queue.specs.declared.Queue.{Queue}
 use Rattle.queue.specs.Queue as Q
 use Rattle.queue.specs.Queue.{AREA, current, closed}
@@ -107,17 +110,21 @@ module _ (y : Priority) (n : ℕ) where
 -- ---- the request at place n that was submitted with the record r and the data x
 module _ (y : Priority) (n ts : ℕ) (r : Record) (x : List ℕ) where
   -- its octets, when it is the first unconfirmed one
-  carries : (a : Address) (q : Queue) (u : Rows) (marks : List ℕ) → a .0 ≡ ts → Open n r x q u → current q ≡ n
-      → Carries ts y r x (octetsIn a y q marks u)
+  carries : (a : Address) (q : Queue) (u : Rows) (marks : List ℕ) → unfit ts r (length x) ≡ 0 → a .0 ≡ ts
+      → Open n r x q u → current q ≡ n → Carries ts y r x (octetsIn a y q marks u)
   unfolding octetsIn recordIn dataIn headFor closed
-  carries a q u marks e o i =
+  carries a q u marks g e o i =
       record {
         mark = markOf marks (r .destination .0);
+        fit = g;
         is = rw (i, o .lies .entry, o .lies .octets, ← e);
       }
 
   -- it waits until it is confirmed
-  module _ (short : length x ≤ AREA) where
+  module _ (fit : unfit ts r (length x) ≡ 0) where
+    short : length x ≤ AREA
+    short = omega (arith, fit-short ts r (length x) fit)
+
     pub open-lasts : {a : Address} {q q′ : Queue} {u u′ : Rows} {e : Event} → Filed (a .0) q u
         → Effect y a q u e q′ u′ → Open n r x q u → confirms y n e ≡ false → Open n r x q′ u′
     unfolding confirms
@@ -155,7 +162,7 @@ module _ (y : Priority) (n ts : ℕ) (r : Record) (x : List ℕ) where
   held-of (pending o) = rw (o .lies .entry) (of-waiting (length x))
   held-of (settled e d k z) = rw (z .lies .entry) k
 
-  module _ (short : length x ≤ AREA) where
+  module _ (fit : unfit ts r (length x) ≡ 0) where
     -- it is confirmed, or another is
     held-closed : {own : ℕ} (q : Queue) (u : Rows) (f : Filed own q u) (status k : ℕ) (d : List ℕ)
         → 0 < q .unconfirmed → length d ≤ AREA → (b : Bool) → same (current q) n ≡ b → Open n r x q u
@@ -164,23 +171,24 @@ module _ (y : Priority) (n ts : ℕ) (r : Record) (x : List ℕ) where
         let i = true-same _ _ e in
         settled _ _ (of-closed _ _ status k (length d) (o .lies .entry) (of-waiting (length x)))
         (fixed-now q u f n status k d h i)
-    held-closed q u f status k d h l false e o = pending (open-closed q u f short o status k d l (false-same _ _ e))
+    held-closed q u f status k d h l false e o =
+        pending (open-closed q u f (short fit) o status k d l (false-same _ _ e))
 
     pub held-lasts : {a : Address} {q q′ : Queue} {u u′ : Rows} {e : Event} → Filed (a .0) q u
         → Effect y a q u e q′ u′ → Held q u → collects y n e ≡ false → Held q′ u′
     unfolding collects
     held-lasts f (spared e h) o i = o
     held-lasts f (sent marks t h) o i = o
-    held-lasts f (taken b d h l) (pending o) i = pending (open-grown _ _ f short o b d h l)
+    held-lasts f (taken b d h l) (pending o) i = pending (open-grown _ _ f (short fit) o b d h l)
     held-lasts f (taken b d h l) (settled e m j z) i = settled e m j (fixed-grown _ _ f z b d h l)
     held-lasts f (shut status k d h l) (pending o) i = held-closed _ _ f status k d h l _ refl o
     held-lasts f (shut status k d h l) (settled e m j z) i = settled e m j (fixed-closed _ _ f z status k d h l)
-    held-lasts f (handed h) (pending o) i = pending (open-freed _ _ f short o h)
+    held-lasts f (handed h) (pending o) i = pending (open-freed _ _ f (short fit) o h)
     held-lasts f (handed h) (settled e m j z) i = settled e m j (fixed-freed _ _ f z (unnamed y n _ i))
 
     pub held-carries : {a : Address} {q : Queue} {u : Rows} (marks : List ℕ) → a .0 ≡ ts → Filed (a .0) q u → Held q u
         → 0 < q .unconfirmed → current q ≡ n → Carries ts y r x (octetsIn a y q marks u)
-    held-carries marks s f (pending o) i j = carries _ _ _ marks s o j
+    held-carries marks s f (pending o) i j = carries _ _ _ marks fit s o j
     held-carries marks s f (settled e d k z) i j = absurd (fixed-current _ _ f z i j)
 
     pub held-asks : {a : Address} {q q′ : Queue} {u u′ : Rows} {e : Event} → a .0 ≡ ts → Filed (a .0) q u

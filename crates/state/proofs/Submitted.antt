@@ -1,20 +1,20 @@
 -- A request carries what was submitted: from its acceptance until its record is collected, its sendings have the
 -- octets of the submitted record and data, and the record at its place, and the one handed back, are of it. Assumes
 -- nothing.
-use Prim.Native.Nat.{ℕ, _≤_}
+use Prim.Native.Nat.{ℕ}
 use mathlib.Core.Bool.{true}
 use mathlib.Core.Path.{_≡_}
 use mathlib.Core.List.{List, [], _∷_, _++_}
 use lib.ListN.{length}
 use Rattle.request.specs.declared.Record.{Record}
+use Rattle.request.specs.Record.{unfit}
 use Rattle.queue.specs.Queue as Q
-use Rattle.queue.specs.Queue.{AREA}
 use Rattle.rows.specs.Rows.{at}
 use Rattle.state.specs.declared.Priority.{Priority}
 use Rattle.state.specs.World.{World, Event, aRequest, accepted, sends, collected, rowsOf}
 use Rattle.state.specs.Runs.{Call, call, run, Begun}
 use Rattle.state.specs.Runs.Call.{submit}
-use Rattle.state.specs.Submitted.{Carries, Of, Lies, confirms, collects, never}
+use Rattle.state.specs.Submitted.{Carries, Reads, Of, Lies, confirms, collects, never}
 use Rattle.state.proofs.Order.{Orderly}
 use Rattle.state.proofs.Ordered.{call-orderly, run-orderly}
 use Rattle.state.proofs.Start.{begun-orderly}
@@ -22,6 +22,7 @@ use Rattle.state.proofs.Effects.{queueAt, rowsAt, rows-by}
 use Rattle.state.proofs.Lasting.{filed-at, lasts-run, lasts-met}
 use Rattle.state.proofs.Entries.{Open}
 use Rattle.state.proofs.Staying.{Asks, asked-sent, asked-collected, waits, pending, held-of, holds}
+use Rattle.state.proofs.Writable.{reads}
 use Rattle.state.proofs.Entering.{submission, entered}
 
 -- ---- the theorems: after a start and any calls, a request is submitted to the queue p with the record r and the
@@ -37,10 +38,11 @@ module _ (w : World) (b : Begun w) (before : List Call) (p : Priority) (r : Reco
   orderly-then : Orderly (b .settings) (b .ts) then
   orderly-then = call-orderly (b .settings) (b .ts) (submit p r x) (run before w .world) orderly
 
-  accepted-there : Open n r x (queueAt p (then .site)) (rowsAt p (then .site)) × (length x ≤ AREA)
+  accepted-there : Open n r x (queueAt p (then .site)) (rowsAt p (then .site)) × (unfit (b .ts) r (length x) ≡ 0)
   accepted-there =
-      entered n (filed-at (b .settings) (b .ts) p (run before w .world .site) (orderly .firm))
-      (submission p r x (run before w .world)) e
+      let a = entered n (filed-at (b .settings) (b .ts) p (run before w .world .site) (orderly .firm))
+      (submission p r x (run before w .world)) e in
+      (a .0, rw (orderly .firm .station) at (a .1))
 
   asked : (earlier later : List Event) (f : Event) → run after then .events ≡ earlier ++ (f ∷ later)
       → never (collects p n) earlier ≡ true → Asks p n (Carries (b .ts) p r x) (Of r) f
@@ -54,6 +56,13 @@ module _ (w : World) (b : Begun w) (before : List Call) (p : Priority) (r : Reco
       → Carries (b .ts) p r x o
   sent-as-submitted earlier later o t i j =
       asked-sent p n _ _ o t (asked earlier later (sends (aRequest p n) o t) i j)
+
+  -- and a reader takes the octets for the frame that was meant
+  pub read-as-submitted : (earlier later : List Event) (o : List ℕ) (t : ℕ)
+      → run after then .events ≡ earlier ++ (sends (aRequest p n) o t ∷ later) → never (collects p n) earlier ≡ true
+      → Reads (b .ts) p r x o
+  read-as-submitted earlier later o t i j =
+      reads (b .ts) p r x o (orderly .small) (sent-as-submitted earlier later o t i j)
 
   -- while it is not confirmed, there lie the record submitted, waiting and with the length of its data, and the data
   pub waits-as-submitted : never (confirms p n) (run after then .events) ≡ true

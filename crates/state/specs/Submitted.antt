@@ -5,25 +5,48 @@ use Prim.Native.Nat.{ℕ}
 use mathlib.Core.Bool.{Bool, true, false}
 use mathlib.Core.Path.{_≡_}
 use mathlib.Core.List.{List, [], _∷_}
+use lib.ListN.{length}
 use Rattle.choice.specs.Choice.{pick, same, both}
+use Rattle.control.specs.declared.Control.the-variants.{Request}
+use Rattle.frame.specs.declared.Head.{Head}
+use Rattle.frame.specs.declared.Part.{Part}
 use Rattle.frame.specs.declared.Fields.the-variants.{Frame}
+use Rattle.frame.specs.declared.Answer.the-variants.{Read}
+use Rattle.frame.specs.Access.{pointOf}
 use Rattle.frame.specs.Format.{octets}
+use Rattle.frame.specs.Reading.{read, shown}
 use Rattle.request.specs.declared.Record.{Record}
+use Rattle.request.specs.Record.{unfit}
 use Rattle.rows.specs.Rows.{at, content}
 use Rattle.state.specs.declared.Priority.{Priority}
 use Rattle.state.specs.World.{Rows, World, Event, accepted, begins, ends, sends, confirmed, collected}
 use Rattle.state.specs.World.{indicated, resets, refused}
-use Rattle.state.specs.Request.{headFor}
+use Rattle.state.specs.Request.{serviceOf, headFor}
 use Rattle.state.specs.Counts.{alike}
 use Rattle.state.specs.Runs.{Call, call}
 use Rattle.state.specs.Runs.Call.{submit, frame, sent, slot, reset, collect}
 
--- the octets of the frame that a request with the record r and the data x makes in the queue p of station TS: from TS
--- to r's destination, with r's access points and service, and with x; FCB and FCV are those of some mark (Counts.antt
--- says of which)
+-- the octets of the frame that a fit request with the record r and the data x makes in the queue p of station TS:
+-- from TS to r's destination, with r's access points and service, and with x; FCB and FCV are those of some mark
+-- (Counts.antt says of which)
 pub record Carries (ts : ℕ) (p : Priority) (r : Record) (x o : List ℕ) : Type 0 where
   pub mark : ℕ
+  pub fit : unfit ts r (length x) ≡ 0
   pub is : o ≡ octets (Frame (headFor (record { 0 = ts }) p r mark)) x
+
+-- octets that a reader takes for that frame
+pub record Reads (ts : ℕ) (p : Priority) (r : Record) (x o : List ℕ) : Type 0 where
+  pub head : Head
+  pub part : Part
+  pub fcb : Bool
+  pub fcv : Bool
+  pub taken : read o ≡ Read (Frame head) part
+  pub destination : head .destination ≡ r .destination
+  pub to : pointOf (head .to) ≡ r .to .0
+  pub source : head .source .0 ≡ ts
+  pub from : pointOf (head .from) ≡ r .from .0
+  pub control : head .control ≡ Request (serviceOf p (r .service)) fcb fcv
+  pub octets : shown o part ≡ x
 
 -- a record e of the request that was submitted with the record r: its service, its destination and its access points
 pub record Of (r e : Record) : Type 0 where
@@ -95,10 +118,14 @@ unfoldable pub ledger : Priority → ℕ → List Call → World → Entry → E
 ledger p n [] w e = e
 ledger p n (c ∷ l) w e = ledger p n l (call c w .world) (enters p n c (call c w .events) e)
 
--- octets that carry the request of an entry, and records of it
+-- octets that carry the request of an entry, octets that a reader takes for it, and records of it
 unfoldable pub CarriesEntry : ℕ → Priority → Entry → List ℕ → Type 0
 CarriesEntry ts p blank o = ⊥
 CarriesEntry ts p (entry r x) o = Carries ts p r x o
+
+unfoldable pub ReadsEntry : ℕ → Priority → Entry → List ℕ → Type 0
+ReadsEntry ts p blank o = ⊥
+ReadsEntry ts p (entry r x) o = Reads ts p r x o
 
 unfoldable pub OfEntry : Entry → Record → Type 0
 OfEntry blank e = ⊥
