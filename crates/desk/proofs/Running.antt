@@ -1,77 +1,48 @@
--- Every script is a run: a line is a call of document 01, or leaves the station, or starts one. Assumes nothing.
+-- Every script is a run of the calls that its lines name, and prints what their events say. Assumes nothing.
 use Prim.Native.Nat.{ℕ, zero, _*_}
 use mathlib.Core.Bool.{Bool, true, false, true≢false}
 use mathlib.Core.List.{List, [], _∷_, _++_, append-nil}
 use mathlib.Core.Path.{_≡_, refl, sym, ap, _∙_}
-use lib.ListN.{length-replicate}
-use Rattle.choice.specs.Choice.{pick, same}
-use Rattle.choice.proofs.Rules.{pick-false, unrefused, by-pick}
+use lib.ListN.{length, getD, length-replicate}
+use Rattle.choice.specs.Choice.{pick, less, same, said}
+use Rattle.choice.proofs.Rules.{unrefused}
 use Rattle.request.specs.Record.{SIZE}
 use Rattle.queue.specs.Queue.{AREA}
+use Rattle.typed.specs.Places.{LONGEST}
 use Rattle.typed_call.specs.declared.script.Call.{Call as Typed}
-use Rattle.typed_call.specs.declared.script.Call.the-variants.{Unknown, Start, Submit, Frame, Sent, Slot, Reset}
-use Rattle.typed_call.specs.declared.script.Call.the-variants.{Collect, Show}
+use Rattle.typed_call.specs.declared.script.Call.the-variants.{Unknown}
 use Rattle.typed_call.specs.Script.{callOf}
-use Rattle.typed_call.specs.Operands.{settingsOf, tsOf, mastersOf, pointsOf, highOf, lowOf, queueOf, requestOf, dataOf}
-use Rattle.typed_call.specs.Operands.{clockOf, roomOf, firstOf, secondOf, heardOf}
+use Rattle.typed_call.specs.Operands.{settingsOf, tsOf, mastersOf, pointsOf, highOf, lowOf}
 use Rattle.state.specs.declared.State.{State}
-use Rattle.state.specs.World.{Rows, World, Called, Event, worldOf, stateOf, accepted, begins, ends, sends, confirmed}
-use Rattle.state.specs.World.{collected, indicated, resets, refused}
+use Rattle.state.specs.World.{World, Event, worldOf, stateOf, accepted, begins, ends, sends, confirmed, collected}
+use Rattle.state.specs.World.{indicated, resets, refused}
 use Rattle.state.specs.Calls.{Started, Unstarted, Station}
-use Rattle.state.specs.Runs.{Call, submit, frame, sent, slot, reset, collect, call, run, Begun}
+use Rattle.state.specs.Runs.{Call, call, run, Begun}
 use Rattle.state.proofs.Never.{tells}
 use Rattle.state.proofs.Start.{begun-never-29}
 use Rattle.printed_lines.specs.Saying.{unknownLine, playing}
-use Rattle.play.specs.Play.{stays, startBy, submitBy, frameBy, playedBy}
-use Rattle.desk.specs.Desk.{Desk, Answered, says, cleared, starting, started, starts, answerOther, answerBy}
-use Rattle.desk.specs.Desk.{answer}
-use Rattle.desk.specs.Scripts.{after, Ran}
-use Rattle.desk.specs.Scripts.Ran.{unbegun, ran}
+use Rattle.play.specs.Play.{startBy, namedBy, printedBy, playedBy}
+use Rattle.desk.specs.Desk.{Desk, Answered, says, cleared, starting, started, starts, answerOther, answerBy, answer}
+use Rattle.desk.specs.Scripts.{after, printed, silent, typed, named, Past, renewed, further, next, past}
+use Rattle.desk.specs.Scripts.{startLine, otherLine, lineOf, linesOf, Stands}
+use Rattle.desk.specs.Scripts.Past.{unbegun, since}
+use Rattle.desk.specs.Scripts.Stands.{idle, ran}
 
--- ---- a run and one call more
-run-last : (l : List Call) (c : Call) (w : World) → run (l ++ (c ∷ [])) w .world ≡ call c (run l w .world) .world
+-- ---- a run and calls more
+run-further : (l m : List Call) (w : World) → run (l ++ m) w .world ≡ run m (run l w .world) .world
 unfolding run
-run-last [] c w = refl
-run-last (x ∷ l) c w = run-last l c (call x w .world)
+run-further [] m w = refl
+run-further (x ∷ l) m w = run-further l m (call x w .world)
 
 -- a world's state with the world's rows is that world
 back : (w : World) → worldOf (stateOf w) (w .site .high) (w .site .low) ≡ w
 unfolding worldOf stateOf
 back w = refl
 
--- ---- a line on a station that a run left
-module _ (w : World) (b : Begun w) (r : List Call) (s : State) (high low : Rows)
-    (e : worldOf s high low ≡ run r w .world) where
-  by-call : (line : Called → List ℕ) (c : Call) → Ran (started (playing line (call c (worldOf s high low))) .desk)
-  unfolding started playing
-  by-call line c =
-      ran w b (r ++ (c ∷ []))
-      (back (call c (worldOf s high low) .world) ∙ ap (λ (x : World). call c x .world) e ∙ sym (run-last r c w))
-
-  by-none : (line : List ℕ) → Ran (started (stays line s high low) .desk)
-  unfolding started stays
-  by-none line = ran w b r e
-
-  by-line : (c : Typed) (l : List ℕ) → Ran (started (playedBy c l s high low) .desk)
-  unfolding playedBy submitBy frameBy call
-  by-line Unknown l = by-none _
-  by-line Start l = by-none _
-  by-line Submit l = by-call _ (submit (queueOf l) (requestOf l) (dataOf l))
-  by-line Frame l = by-call _ (frame (clockOf l) (roomOf l) (firstOf l) (secondOf l) (heardOf l) 255)
-  by-line Sent l = by-call _ (sent (clockOf l) 255)
-  by-line Slot l = by-call _ (slot (clockOf l) 255)
-  by-line Reset l = by-call _ reset
-  by-line Collect l = by-call _ (collect (queueOf l))
-  by-line Show l = by-none _
-
--- ---- any line on any desk
-other-ran : (c : Typed) (l : List ℕ) (d : Desk) → Ran d → Ran (answerOther c l d .desk)
-unfolding answerOther
-other-ran c l d (unbegun e) =
-    rw (pick-false (started (playedBy c l (d .state) (d .high) (d .low))) (says unknownLine d) e) (unbegun e)
-other-ran c l d (ran w b r e) =
-    by-pick (λ (a : Answered). Ran (a .desk)) (d .begun) (by-line w b r (d .state) (d .high) (d .low) e c l)
-    (ran w b r e)
+-- ---- what a line does and prints, by a past
+record Tells (q : Past) (line : List ℕ) (a : Answered) : Type 0 where
+  stands : Stands q (a .desk)
+  says : a .line ≡ line
 
 -- a start: the rows are as long as it was told
 begun : (l : List ℕ) (s : State) → startBy l ≡ Station s → Begun (worldOf s (cleared (highOf l)) (cleared (lowOf l)))
@@ -95,27 +66,81 @@ begun l s e =
       world = refl;
     }
 
-start-ran : (l : List ℕ) (d : Desk) (t : Started) → startBy l ≡ t → Ran d
-    → Ran (starting t (highOf l) (lowOf l) d .desk)
-unfolding starting startBy run
-start-ran l d (Unstarted n) e x = x
-start-ran l d (Station s) e x =
-    ran (worldOf s (cleared (highOf l)) (cleared (lowOf l))) (begun l s e) [] refl
+start-told : (l : List ℕ) (p : Past) (d : Desk) (t : Started) → startBy l ≡ t → Stands p d
+    → Tells (renewed t (highOf l) (lowOf l) p) (startLine t) (starting t (highOf l) (lowOf l) d)
+unfolding starting startLine renewed run
+start-told l p d (Unstarted n) e x = record { stands = x; says = refl }
+start-told l p d (Station s) e x =
+    record {
+      stands = ran (worldOf s (cleared (highOf l)) (cleared (lowOf l))) [] refl (begun l s e) refl refl;
+      says = refl;
+    }
 
-answer-ran : (l : List ℕ) (d : Desk) → Ran d → Ran (answer l d .desk)
-unfolding answer answerBy
-answer-ran l d x =
-    by-pick (λ (a : Answered). Ran (a .desk)) _ x
-    (by-pick (λ (a : Answered). Ran (a .desk)) _ x
-    (by-pick (λ (a : Answered). Ran (a .desk)) _ x
-    (by-pick (λ (a : Answered). Ran (a .desk)) _ (start-ran l d (startBy l) refl x) (other-ran (callOf l) l d x))))
+other-told : (c : Typed) (l : List ℕ) (p : Past) (d : Desk) → Stands p d
+    → Tells (further (namedBy c l) p) (otherLine c l p) (answerOther c l d)
+unfolding answerOther otherLine further pick playedBy started playing
+other-told c l p d (idle e b) = rw (e, b) (record { stands = idle refl refl; says = refl })
+other-told c l p d (ran w r e g b h) =
+    rw (e, b)
+    (record {
+      stands =
+          ran w (r ++ namedBy c l) refl g refl
+          (back _ ∙ ap (λ (x : World). run (namedBy c l) x .world) h ∙ sym (run-further r (namedBy c l) w));
+      says = ap (λ (x : World). printedBy c l (run (namedBy c l) x)) h;
+    })
+
+-- a line that names no call
+none-further : (p : Past) → further [] p ≡ p
+unfolding further
+none-further unbegun = refl
+none-further (since w l) = ap (λ (m : List Call). since w m) (append-nil l)
+
+none-said : (l : List ℕ) (p : Past) → otherLine Unknown l p ≡ unknownLine
+unfolding otherLine printedBy
+none-said l unbegun = refl
+none-said l (since w r) = refl
+
+none-told : (line : List ℕ) (p : Past) (d : Desk) → Stands p d → Tells (further [] p) line (says line d)
+none-told line p d x = record { stands = rw (none-further p) x; says = refl }
+
+-- a line by the call that it is, and any line
+by-start : (b : Bool) {p q : Past} {m n : List ℕ} {u v : Answered} → Tells p m u → Tells q n v
+    → Tells (pick b p q) (pick b m n) (pick (said b) u v)
+unfolding pick said
+by-start true x y = x
+by-start false x y = y
+
+by-tests : (e h x : Bool) (c : Typed) (l : List ℕ) (p : Past) (d : Desk) → Stands p d
+    → let t : Typed = pick (pick e true h) Unknown (pick x Unknown c) in
+    Tells (pick (starts t) (renewed (startBy l) (highOf l) (lowOf l) p) (further (namedBy t l) p))
+    (pick (pick e true h) [] (pick (starts t) (startLine (startBy l)) (otherLine t l p)))
+    (pick e (says [] d) (pick h (says [] d) (pick x (says unknownLine d) (answerBy c l d))))
+unfolding pick starts namedBy answerBy
+by-tests true h x c l p d k = none-told [] p d k
+by-tests false true x c l p d k = none-told [] p d k
+by-tests false false true c l p d k = rw (none-said l p) (none-told unknownLine p d k)
+by-tests false false false c l p d k =
+    by-start (starts c) (start-told l p d (startBy l) refl k) (other-told c l p d k)
+
+answer-told : (l : List ℕ) (p : Past) (d : Desk) → Stands p d → Tells (next l p) (lineOf l p) (answer l d)
+unfolding next lineOf named typed silent answer
+answer-told l p d k =
+    by-tests (same (length l) 0) (same (getD l 0 0) 0x23) (less LONGEST (length l)) (callOf l) l p d k
 
 -- "After a start and before any other, if each call is given the state and each row, data included, as the call before
--- left them": so it is in every script
-pub script-runs : (s : List (List ℕ)) (d : Desk) → Ran d → Ran (after s d)
-unfolding after
-script-runs [] d x = x
-script-runs (l ∷ s) d x = script-runs s (answer l d .desk) (answer-ran l d x)
+-- left them": so it is in every script, and the calls are those that its lines name
+pub script-runs : (s : List (List ℕ)) (p : Past) (d : Desk) → Stands p d → Stands (past s p) (after s d)
+unfolding after past
+script-runs [] p d x = x
+script-runs (l ∷ s) p d x = script-runs s (next l p) (answer l d .desk) (answer-told l p d x .stands)
+
+-- and it prints, line for line, what the events of these calls say
+pub script-prints : (s : List (List ℕ)) (p : Past) (d : Desk) → Stands p d → printed s d ≡ linesOf s p
+unfolding printed linesOf
+script-prints [] p d x = refl
+script-prints (l ∷ s) p d x =
+    let t = answer-told l p d x in
+    rw (t .says, script-prints s (next l p) (answer l d .desk) (t .stands)) refl
 
 -- ---- and so no line of a script is refused 29
 tells-behind : (m : ℕ) (a b : List Event) → tells m (a ++ b) ≡ false → tells m b ≡ false
@@ -137,7 +162,7 @@ unfolding run
 tells-last [] c w h = rw (append-nil (call c w .events)) at h
 tells-last (x ∷ l) c w h = tells-last l c (call x w .world) (tells-behind 29 (call x w .events) _ h)
 
-pub script-never-29 : (d : Desk) → Ran d → d .begun ≡ true → (c : Call)
+pub script-never-29 : (p : Past) (d : Desk) → Stands p d → d .begun ≡ true → (c : Call)
     → tells 29 (call c (worldOf (d .state) (d .high) (d .low)) .events) ≡ false
-script-never-29 d (unbegun e) b c = absurd (true≢false (sym b ∙ e))
-script-never-29 d (ran w g r e) b c = rw e (tells-last r c w (begun-never-29 w g (r ++ (c ∷ []))))
+script-never-29 p d (idle e b) t c = absurd (true≢false (sym t ∙ b))
+script-never-29 p d (ran w r e g b h) t c = rw h (tells-last r c w (begun-never-29 w g (r ++ (c ∷ []))))

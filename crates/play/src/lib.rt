@@ -4,6 +4,7 @@ ghost use mathlib.Core.Path.{_≡_};
 ghost use Prim.Native.Nat.{_≤_};
 ghost use lib.ListN.{length};
 ghost use Rattle.state.specs.World.{rows, worldOf};
+ghost use Rattle.state.specs.Runs.{call as Runs·call};
 ghost use Rattle.state.specs.Told.{leaves, startedOf};
 ghost use Rattle.typed.specs.Places.{LONGEST};
 ghost use Rattle.typed_call.specs.Operands.{heardOf};
@@ -45,7 +46,7 @@ fn submit(
     ensures { λ a. ⌜ leaves a (rows (now (high .exit)) (now (harea .exit)))
         (rows (now (low .exit)) (now (larea .exit))) (now (text .exit))
         ≡ played plainOf
-        (submitBy (now (line .entry))
+        (Runs·call (submitBy (now (line .entry)))
         (worldOf s (rows (now (high .entry)) (now (harea .entry)))
         (rows (now (low .entry)) (now (larea .entry))))) (now (text .entry)) ⌝ }
 {
@@ -70,7 +71,7 @@ fn frame(
     ensures { λ a. ⌜ leaves a (rows (now (high .exit)) (now (harea .exit)))
         (rows (now (low .exit)) (now (larea .exit))) (now (text .exit))
         ≡ played (answerOf (heardOf (now (line .entry))))
-        (frameBy (now (line .entry))
+        (Runs·call (frameBy (now (line .entry)))
         (worldOf s (rows (now (high .entry)) (now (harea .entry)))
         (rows (now (low .entry)) (now (larea .entry))))) (now (text .entry)) ⌝ }
 {

@@ -2,6 +2,7 @@
 // is whole. What a line does and prints is `desk::answer`, which lines there are is `typed_lines::gather`; here they
 // are called in turn, in memory that does not grow with the script.
 ghost use mathlib.Core.Path.{_≡_};
+ghost use mathlib.Core.Bool.{false};
 ghost use lib.ListN.{length};
 ghost use Rattle.desk.specs.Desk.{Few, Arrays};
 ghost use Rattle.typed_lines.specs.Intake.{ROOM};
@@ -23,7 +24,7 @@ struct Pending {
 
 // Before the first start.
 fn unbegun() -> Held
-    ensures { λ r. ⌜ Few r ⌝ }
+    ensures { λ r. ⌜ (Few r) × (r .begun ≡ false) ⌝ }
 {
     let r = play::start(b"");
     let state = r.state;

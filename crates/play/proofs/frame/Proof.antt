@@ -8,6 +8,7 @@ use mathlib.Core.Path.{sym}
 use native.Mathlib.Omega.{arith}
 use lib.ListN.{length-replicate}
 use lib.Seq.{length-take-le}
+use Rattle.state.specs.Runs.{call}
 use Rattle.play.specs.Play.{frameBy}
 use Rattle.play.proofs.Lines.{take-near}
 
@@ -59,7 +60,7 @@ frame-requires c κs =
     )
 
 returns : tie.Need-returns
-unfolding frameBy
+unfolding frameBy call
 returns c =
     let after-harea : tie.After-harea = search depth 0 in
     let after-frame : tie.After-frame = search depth 0 in

@@ -5,6 +5,7 @@ use Rattle.play.proofs.submit.Statement.{statement}
 use Rattle.play.proofs.submit.Tie as tie
 use mathlib.Core.Path.{sym}
 use lib.Seq.{length-take-le}
+use Rattle.state.specs.Runs.{call}
 use Rattle.play.specs.Play.{submitBy}
 
 slice-aggregate-submit : tie.Need-slice-aggregate-submit
@@ -16,7 +17,7 @@ slice-aggregate-submit c =
     (after-octets .octets .ensures .1))
 
 returns : tie.Need-returns
-unfolding submitBy
+unfolding submitBy call
 returns c =
     let after-harea : tie.After-harea = search depth 0 in
     let after-submit : tie.After-submit = search depth 0 in

@@ -22,7 +22,7 @@ loop-holds : tie.Need-loop-holds Inv-loop μ-loop
 loop-holds c =
     let after-slice-known : tie.After-slice-known Inv-loop μ-loop = search depth 0 in
     let start : tie.Start Inv-loop μ-loop = search depth 0 in
-    (refl, record { few = c .unbegun .ensures; kept = omega arith; line = start .pre .0; arrays = start .pre .1 })
+    (refl, record { few = c .unbegun .ensures .0; kept = omega arith; line = start .pre .0; arrays = start .pre .1 })
 
 heed-requires : tie.Need-heed-requires Inv-loop μ-loop
 heed-requires c κs =
