@@ -22,7 +22,8 @@ use Rattle.state.proofs.Never.{tells}
 use Rattle.state.proofs.Start.{begun-never-29}
 use Rattle.printed_lines.specs.Saying.{unknownLine, playing}
 use Rattle.play.specs.Play.{startBy, namedBy, printedBy, playedBy}
-use Rattle.desk.specs.Desk.{Desk, Answered, says, cleared, starting, started, starts, answerOther, answerBy, answer}
+use Rattle.desk.specs.Desk.{Desk, Answered, says, cleared, starting, started, starts, answerOther, answerBy}
+use Rattle.desk.specs.Desk.{answer}
 use Rattle.desk.specs.Scripts.{after, printed, silent, typed, named, Past, renewed, further, next, past}
 use Rattle.desk.specs.Scripts.{startLine, otherLine, lineOf, linesOf, Stands}
 use Rattle.desk.specs.Scripts.Past.{unbegun, since}
@@ -127,8 +128,8 @@ unfolding next lineOf named typed silent answer
 answer-told l p d k =
     by-tests (same (length l) 0) (same (getD l 0 0) 0x23) (less LONGEST (length l)) (callOf l) l p d k
 
--- "After a start and before any other, if each call is given the state and each row, data included, as the call before
--- left them": so it is in every script, and the calls are those that its lines name
+-- "After a start and before any other, if each call is given the state and each row, data included, as the call
+-- before left them": so it is in every script, and the calls are those that its lines name
 pub script-runs : (s : List (List ℕ)) (p : Past) (d : Desk) → Stands p d → Stands (past s p) (after s d)
 unfolding after past
 script-runs [] p d x = x

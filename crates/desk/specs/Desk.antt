@@ -6,7 +6,7 @@ use mathlib.Core.Bool.{Bool, true, false}
 use mathlib.Core.List.{List, []}
 use lib.ListN.{length, take, getD, replicate}
 use Rattle.choice.specs.Choice.{pick, less, same, said}
-use Rattle.laid.specs.Laid.{Lays}
+use Rattle.laid.specs.Laid.{laid, Lays}
 use Rattle.request.specs.Record.{SIZE}
 use Rattle.queue.specs.Queue.{AREA}
 use Rattle.typed.specs.Places.{LONGEST}
@@ -101,8 +101,14 @@ pub record Few (h : Held) : Type 0 where
   pub high : h .high ≤ 64
   pub low : h .low ≤ 64
 
--- how a function does what a line does: it leaves the desk, and lays what is printed at the start of the text
-pub record Answers (a : Answered) (text : List ℕ) (r : Said) (high harea low larea text′ : List ℕ) : Type 0 where
-  pub desk : deskOf (r .held) high harea low larea ≡ a .desk
-  pub laid : Lays text 0 (a .line) 8192 (r .length) text′
+-- how a function does what a line does: it leaves the desk, each row at the start of its array and all behind it as it
+-- was, and lays what is printed at the start of the text
+pub record Answers (a : Answered) (high harea low larea text : List ℕ) (r : Said)
+    (high′ harea′ low′ larea′ text′ : List ℕ) : Type 0 where
+  pub desk : deskOf (r .held) high′ harea′ low′ larea′ ≡ a .desk
+  pub upper : high′ ≡ laid high 0 (a .desk .high .row)
+  pub upperArea : harea′ ≡ laid harea 0 (a .desk .high .area)
+  pub lower : low′ ≡ laid low 0 (a .desk .low .row)
+  pub lowerArea : larea′ ≡ laid larea 0 (a .desk .low .area)
+  pub line : Lays text 0 (a .line) 8192 (r .length) text′
   pub few : Few (r .held)

@@ -3,6 +3,7 @@
 ghost use mathlib.Core.Path.{_≡_};
 ghost use Prim.Native.Nat.{_≤_};
 ghost use lib.ListN.{length, replicate};
+ghost use Rattle.laid.specs.Laid.{laid};
 ghost use Rattle.typed.specs.Places.{LONGEST as Places·LONGEST};
 ghost use Rattle.typed_call.specs.Operands.{highOf, lowOf};
 ghost use Rattle.play.specs.Play.{startBy};
@@ -32,12 +33,13 @@ pub struct Said {
     pub length: usize,
 }
 
-// Fills an array with zeros.
-fn clear(a: &mut [u8])
-    ensures { λ _. ⌜ now (a .exit) ≡ replicate (length (now (a .entry))) 0 ⌝ }
+// Fills the first n octets of an array with zeros.
+fn clear(a: &mut [u8], n: usize)
+    requires { ⌜ n ≤ length (now a) ⌝ }
+    ensures { λ _. ⌜ now (a .exit) ≡ laid (now (a .entry)) 0 (replicate n 0) ⌝ }
 {
     let mut i = 0;
-    while i < a.len() {
+    while i < n {
         a[i] = 0;
         i += 1;
     }
@@ -58,8 +60,8 @@ fn begin(
         (starting (startBy (now (line .entry))) (highOf (now (line .entry)))
         (lowOf (now (line .entry)))
         (deskOf h (now (high .entry)) (now (harea .entry)) (now (low .entry)) (now (larea .entry))))
-        (now (text .entry)) r (now (high .exit)) (now (harea .exit)) (now (low .exit)) (now (larea .exit))
-        (now (text .exit)) ⌝ }
+        (now (high .entry)) (now (harea .entry)) (now (low .entry)) (now (larea .entry)) (now (text .entry)) r
+        (now (high .exit)) (now (harea .exit)) (now (low .exit)) (now (larea .exit)) (now (text .exit)) ⌝ }
 {
     let r = play::start(line);
     let state = r.state;
@@ -67,15 +69,17 @@ fn begin(
     if r.refused != 0 {
         return Said { held: h, length };
     }
-    clear(high);
-    clear(harea);
-    clear(low);
-    clear(larea);
+    let upper = operands::high(line);
+    let lower = operands::low(line);
+    clear(high, request::SIZE * upper);
+    clear(harea, queue::AREA * upper);
+    clear(low, request::SIZE * lower);
+    clear(larea, queue::AREA * lower);
     Said {
         held: Held {
             begun: true,
-            high: operands::high(line),
-            low: operands::low(line),
+            high: upper,
+            low: lower,
             state,
         },
         length,
@@ -98,8 +102,8 @@ fn go_on(
     ensures { λ r. ⌜ Answers
         (answerOther call (now (line .entry))
         (deskOf h (now (high .entry)) (now (harea .entry)) (now (low .entry)) (now (larea .entry))))
-        (now (text .entry)) r (now (high .exit)) (now (harea .exit)) (now (low .exit)) (now (larea .exit))
-        (now (text .exit)) ⌝ }
+        (now (high .entry)) (now (harea .entry)) (now (low .entry)) (now (larea .entry)) (now (text .entry)) r
+        (now (high .exit)) (now (harea .exit)) (now (low .exit)) (now (larea .exit)) (now (text .exit)) ⌝ }
 {
     let n = h.high;
     let m = h.low;
@@ -165,8 +169,8 @@ fn answer_by(
     ensures { λ r. ⌜ Answers
         (answerBy call (now (line .entry))
         (deskOf h (now (high .entry)) (now (harea .entry)) (now (low .entry)) (now (larea .entry))))
-        (now (text .entry)) r (now (high .exit)) (now (harea .exit)) (now (low .exit)) (now (larea .exit))
-        (now (text .exit)) ⌝ }
+        (now (high .entry)) (now (harea .entry)) (now (low .entry)) (now (larea .entry)) (now (text .entry)) r
+        (now (high .exit)) (now (harea .exit)) (now (low .exit)) (now (larea .exit)) (now (text .exit)) ⌝ }
 {
     if starts(call) {
         return begin(h, line, high, harea, low, larea, text);
@@ -188,8 +192,8 @@ pub fn answer(
     ensures { λ r. ⌜ Answers
         (Desk·answer (now (line .entry))
         (deskOf h (now (high .entry)) (now (harea .entry)) (now (low .entry)) (now (larea .entry))))
-        (now (text .entry)) r (now (high .exit)) (now (harea .exit)) (now (low .exit)) (now (larea .exit))
-        (now (text .exit)) ⌝ }
+        (now (high .entry)) (now (harea .entry)) (now (low .entry)) (now (larea .entry)) (now (text .entry)) r
+        (now (high .exit)) (now (harea .exit)) (now (low .exit)) (now (larea .exit)) (now (text .exit)) ⌝ }
 {
     if line.len() == 0 {
         return Said { held: h, length: 0 };

@@ -1,10 +1,12 @@
 -- The replay script, "one call a line": a line gathered from blocks of input, in memory that does not grow. Of a line
 -- that is longer than any call the first 4097 octets are kept. Assumes nothing.
 use Prim.Native.Nat.{ℕ, suc, _+_}
+use mathlib.Core.Path.{_≡_}
 use mathlib.Core.Bool.{true, false}
 use mathlib.Core.List.{List, [], _∷_, _++_}
 use lib.ListN.{length, take, drop}
 use Rattle.choice.specs.Choice.{pick, less, same}
+use Rattle.laid.specs.Laid.{laid}
 use Rattle.typed_lines.specs.declared.Gathered.{Gathered}
 
 -- the line end
@@ -38,3 +40,8 @@ gathered line block from =
     pick (less e (length block))
     (record { next = e + 1; count = length (more line block from); whole = true })
     (record { next = e; count = length (more line block from); whole = false })
+
+-- all that gathering leaves: the answer, and the line with what is kept at its start and all behind that as it was
+pub record Gathers (line block : List ℕ) (from count : ℕ) (r : Gathered) (line′ : List ℕ) : Type 0 where
+  pub answer : r ≡ gathered (take count line) block from
+  pub left : line′ ≡ laid line 0 (more (take count line) block from)

@@ -3,7 +3,8 @@ ghost use mathlib.Core.Path.{_≡_};
 ghost use mathlib.Core.List.{[], _∷_, _++_};
 ghost use Prim.Native.Nat.{_≤_};
 ghost use lib.ListN.{length, take};
-ghost use Rattle.typed_lines.specs.Intake.{ROOM as Intake·ROOM, kept, more, gathered};
+ghost use Rattle.laid.specs.Laid.{laid};
+ghost use Rattle.typed_lines.specs.Intake.{ROOM as Intake·ROOM, kept, Gathers};
 
 const NEWLINE: u8 = 0x0A;
 
@@ -20,8 +21,8 @@ pub struct Gathered {
 // Adds an octet to a line of which some are kept, if there is room.
 fn put(c: u8, line: &mut [u8], count: usize) -> usize
     requires { ⌜ (length (now line) ≡ Intake·ROOM) × (count ≤ Intake·ROOM) ⌝ }
-    ensures { λ r. ⌜ (take r (now (line .exit)) ≡ kept (take count (now (line .entry)) ++ (c ∷ [])))
-        × (r ≤ Intake·ROOM) ⌝ }
+    ensures { λ r. ⌜ (r ≡ length (kept (take count (now (line .entry)) ++ (c ∷ []))))
+        × (now (line .exit) ≡ laid (now (line .entry)) 0 (kept (take count (now (line .entry)) ++ (c ∷ [])))) ⌝ }
 {
     if count < ROOM {
         line[count] = c;
@@ -33,9 +34,7 @@ fn put(c: u8, line: &mut [u8], count: usize) -> usize
 // Adds the octets of a block from a place on to a line of which some are kept, up to a line end.
 pub fn gather(block: &[u8], from: usize, line: &mut [u8], count: usize) -> Gathered
     requires { ⌜ (length (now line) ≡ Intake·ROOM) × (count ≤ Intake·ROOM) ⌝ }
-    ensures { λ r. ⌜ r ≡ gathered (take count (now (line .entry))) (now (block .entry)) from ⌝ }
-    ensures { λ r. ⌜ take (r .count) (now (line .exit))
-        ≡ more (take count (now (line .entry))) (now (block .entry)) from ⌝ }
+    ensures { λ r. ⌜ Gathers (now (line .entry)) (now (block .entry)) from count r (now (line .exit)) ⌝ }
 {
     let mut i = from;
     let mut k = count;

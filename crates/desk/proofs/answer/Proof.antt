@@ -15,7 +15,8 @@ unfolding answer pick
 returns c =
     let start : tie.Start = search depth 0 in
     let a = start .args in rw (same-true (c .if1 .taken))
-    (silent (a .h) (a .high .now) (a .harea .now) (a .low .now) (a .larea .now) (a .text .now) (start .pre .1))
+    (silent (a .h) (a .high .now) (a .harea .now) (a .low .now) (a .larea .now) (a .text .now) (start .pre .0)
+    (start .pre .1))
 
 shared-slice-read-if2 : tie.Need-shared-slice-read-if2
 shared-slice-read-if2 c = omega arith
@@ -26,7 +27,8 @@ returns-2 c =
     let else1 : tie.Else1 = search depth 0 in
     let start : tie.Start = search depth 0 in
     let a = start .args in rw (same-false (else1 .if1 .left), same-true (c .if2 .taken))
-    (silent (a .h) (a .high .now) (a .harea .now) (a .low .now) (a .larea .now) (a .text .now) (start .pre .1))
+    (silent (a .h) (a .high .now) (a .harea .now) (a .low .now) (a .larea .now) (a .text .now) (start .pre .0)
+    (start .pre .1))
 
 unknown-requires : tie.Need-unknown-requires
 unknown-requires c κs =
@@ -45,7 +47,7 @@ returns-3 c =
     let a = start .args in rw
     (same-false (else1 .if1 .left), same-false (else2 .if2 .left), less-true (then3 .if3 .taken))
     (keeps unknownLine (a .h) (a .high .now) (a .harea .now) (a .low .now) (a .larea .now) (a .text .now)
-    (start .pre .1) (after-unknown .unknown .ensures))
+    (start .pre .0) (start .pre .1) (after-unknown .unknown .ensures))
 
 answer-by-requires : tie.Need-answer-by-requires
 answer-by-requires c κs =

@@ -1,39 +1,44 @@
--- `desk::clear` meets its contract. The loop's invariant: what was passed is zeros.
+-- `desk::clear` meets its contract. The loop's invariant: what was passed is zeros, and all else as it was.
 -- Assumes nothing.
 use Rattle.desk.proofs.clear.Statement.{statement}
 use Rattle.desk.proofs.clear.Tie as tie
 use Prim.Native.Nat.{_-_, _≤_}
-use mathlib.Core.Path.{_≡_, refl, ap, _∙_}
+use mathlib.Core.Path.{_≡_, refl, sym, ap, _∙_}
 use native.Mathlib.Omega.{arith}
-use lib.ListN.{length, take, length-set}
-use Rattle.desk.proofs.Holding.{zeros, zeros-more, zeros-all}
+use lib.ListN.{length, set, length-set}
+use Rattle.laid.specs.Laid.{laid}
+use Rattle.laid.proofs.Laws.{laid-nil}
+use Rattle.desk.proofs.Holding.{zeros, zeros-more}
 
 abbrev Inv-loop : tie.InvT-loop
-Inv-loop a₀ i₀ a i = (length a ≡ length a₀) × (i ≤ length a) × (take i a ≡ zeros i)
+Inv-loop a₀ n i₀ a i = (length a ≡ length a₀) × (i ≤ n) × (a ≡ laid a₀ 0 (zeros i))
 
 abbrev μ-loop : tie.MeasureT-loop
-μ-loop a₀ i₀ a i = length a - i
+μ-loop a₀ n i₀ a i = n - i
 
 loop-holds : tie.Need-loop-holds Inv-loop μ-loop
-loop-holds c = (refl, omega arith, refl)
+loop-holds c = (refl, omega arith, sym (laid-nil _ 0))
 
 slice-write-a : tie.Need-slice-write-a Inv-loop μ-loop
-slice-write-a c = omega arith
+slice-write-a c =
+    let at-loop : tie.At-loop Inv-loop μ-loop = search depth 0 in
+    let start : tie.Start Inv-loop μ-loop = search depth 0 in
+    omega (arith, at-loop .loop .inv .0, start .pre)
 
 add-i : tie.Need-add-i Inv-loop μ-loop
 add-i c = omega arith
 
 loop-less : tie.Need-loop-less Inv-loop μ-loop
-loop-less c =
-    let at-loop : tie.At-loop Inv-loop μ-loop = search depth 0 in
-    omega (arith, length-set (at-loop .loop .a) (at-loop .loop .i) 0)
+loop-less c = omega arith
 
 loop-again : tie.Need-loop-again Inv-loop μ-loop
 loop-again c =
-    let at-loop : tie.At-loop Inv-loop μ-loop = search depth 0 in (
-      length-set (at-loop .loop .a) (at-loop .loop .i) 0 ∙ at-loop .loop .inv .0,
-      omega (arith, length-set (at-loop .loop .a) (at-loop .loop .i) 0),
-      zeros-more (at-loop .loop .a) (at-loop .loop .i) (c .loop-test .taken) (at-loop .loop .inv .2),
+    let at-loop : tie.At-loop Inv-loop μ-loop = search depth 0 in
+    let start : tie.Start Inv-loop μ-loop = search depth 0 in
+    let l = at-loop .loop in (
+      length-set (l .a) (l .i) 0 ∙ l .inv .0,
+      omega arith,
+      ap (λ x. set x (l .i) 0) (l .inv .2) ∙ zeros-more (start .args .a .now) (l .i) (omega (arith, start .pre)),
     )
 
 same-length : tie.Need-same-length Inv-loop μ-loop
@@ -44,8 +49,10 @@ same-length c =
 returns : tie.Need-returns Inv-loop μ-loop
 returns c =
     let at-loop : tie.At-loop Inv-loop μ-loop = search depth 0 in
-    zeros-all (at-loop .loop .a) (at-loop .loop .i) (c .loop-test .left) (at-loop .loop .inv .2)
-    (at-loop .loop .inv .1) ∙ ap zeros (at-loop .loop .inv .0)
+    let start : tie.Start Inv-loop μ-loop = search depth 0 in
+    let l = at-loop .loop in
+    let e : l .i ≡ start .args .n = omega arith in
+    rw e at (l .inv .2)
 
 pub clear-spec : {M : Type 1} → statement M
 clear-spec =

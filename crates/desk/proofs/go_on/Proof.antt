@@ -23,8 +23,8 @@ returns c =
     let after-s : tie.After-s = search depth 0 in
     let at-start : tie.Start = search depth 0 in
     let a = at-start .args in unbegun (a .call) (a .line .now) (a .h) (a .high .now) (a .harea .now) (a .low .now)
-    (a .larea .now) (a .text .now) (not-true _ (then1 .if1 .taken)) (at-start .pre .1)
-    (after-unknown .unknown .ensures)
+    (a .larea .now) (a .text .now) (not-true _ (then1 .if1 .taken)) (at-start .pre .0)
+    (at-start .pre .1) (after-unknown .unknown .ensures)
 
 slice-aggregate-play : tie.Need-slice-aggregate-play
 slice-aggregate-play c =

@@ -29,8 +29,8 @@ slice-reshare-prefix-write-all c =
     let start : tie.Start = search depth 0 in
     omega (
       arith,
-      after-answer .answer .ensures .laid .place,
-      after-answer .answer .ensures .laid .near,
+      after-answer .answer .ensures .line .place,
+      after-answer .answer .ensures .line .near,
       after-answer .answer .kept .1 .1 .1 .1 .1 .1 .0,
       start .pre .arrays .text,
     )
@@ -45,8 +45,8 @@ slice-aggregate-write-all c =
     (length-take-le (after-answer .answer .result .length) (after-answer .answer .last .1 .1 .1 .1 .1 .1 .0)
     (omega (
       arith,
-      after-answer .answer .ensures .laid .place,
-      after-answer .answer .ensures .laid .near,
+      after-answer .answer .ensures .line .place,
+      after-answer .answer .ensures .line .near,
       after-answer .answer .kept .1 .1 .1 .1 .1 .1 .0,
       start .pre .arrays .text,
     )))

@@ -39,8 +39,12 @@ heed-requires c κs =
     record {
       few = i .few;
       kept =
-          omega
-          (arith, ap (λ (x : Gathered). x .count) (after-gather .gather .ensures .0), gathered-few (take (at-loop .loop .kept) (at-loop .loop .line)) (start .args .block .now) (at-loop .loop .at));
+          omega (
+            arith,
+            ap (λ (x : Gathered). x .count) (after-gather .gather .ensures .answer),
+            gathered-few (take (at-loop .loop .kept) (at-loop .loop .line)) (start .args .block .now)
+                (at-loop .loop .at),
+          );
       line = after-gather .gather .kept .1 .1 .0 ∙ i .line;
       arrays = i .arrays;
     }
@@ -56,7 +60,7 @@ loop-less c =
     let start = at-loop .before .before .before .before .before .before .before .before in
     omega (
       arith,
-      ap (λ (x : Gathered). x .next) (after-gather .gather .ensures .0),
+      ap (λ (x : Gathered). x .next) (after-gather .gather .ensures .answer),
       gathered-on (take (at-loop .loop .kept) (at-loop .loop .line)) (start .args .block .now) (at-loop .loop .at)
           (in-loop .loop-test .taken),
       in-loop .loop-test .taken,

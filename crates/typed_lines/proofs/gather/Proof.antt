@@ -6,10 +6,10 @@ use Prim.Native.Nat.{_-_}
 use mathlib.Core.Path.{refl, sym, _∙_}
 use native.Mathlib.Omega.{arith}
 use lib.ListN.{length, take}
-use Rattle.typed_lines.proofs.Kept.{Walked, walked-on, walked-all, none-here, none-behind, met-end, no-end}
+use Rattle.typed_lines.proofs.Kept.{Walked, walked-on, walked-laid, none-here, none-behind, met-end, no-end}
 
 abbrev Inv-loop : tie.InvT-loop
-Inv-loop block from line₀ count i₀ k₀ line i k = Walked block (take count line₀) from i k line
+Inv-loop block from line₀ count i₀ k₀ line i k = Walked block (take count line₀) line₀ from i k line
 
 abbrev μ-loop : tie.MeasureT-loop
 μ-loop block from line₀ count i₀ k₀ line i k = length block - i
@@ -17,7 +17,7 @@ abbrev μ-loop : tie.MeasureT-loop
 loop-holds : tie.Need-loop-holds Inv-loop μ-loop
 loop-holds c =
     let start : tie.Start Inv-loop μ-loop = search depth 0 in
-    record { long = start .pre .0; near = start .pre .1; place = refl; left = refl }
+    record { long = start .pre .0; near = start .pre .1; place = refl; left = refl; behind = refl }
 
 shared-slice-read-c : tie.Need-shared-slice-read-c Inv-loop μ-loop
 shared-slice-read-c c = omega arith
@@ -34,10 +34,11 @@ same-length c =
 returns : tie.Need-returns Inv-loop μ-loop
 returns c =
     let in-loop : tie.In-loop Inv-loop μ-loop = search depth 0 in
-    let at-loop : tie.At-loop Inv-loop μ-loop = search depth 0 in (
-      met-end (at-loop .loop .inv) (in-loop .loop-test .taken) (c .if1 .taken),
-      walked-all (at-loop .loop .inv) (none-here _ _ (in-loop .loop-test .taken) (c .if1 .taken)),
-    )
+    let at-loop : tie.At-loop Inv-loop μ-loop = search depth 0 in
+    record {
+      answer = met-end (at-loop .loop .inv) (in-loop .loop-test .taken) (c .if1 .taken);
+      left = walked-laid (at-loop .loop .inv) (none-here _ _ (in-loop .loop-test .taken) (c .if1 .taken));
+    }
 
 put-requires : tie.Need-put-requires Inv-loop μ-loop
 put-requires c κs =
@@ -67,10 +68,11 @@ same-length-2 c =
 
 returns-2 : tie.Need-returns-2 Inv-loop μ-loop
 returns-2 c =
-    let at-loop : tie.At-loop Inv-loop μ-loop = search depth 0 in (
-      no-end (at-loop .loop .inv) (c .loop-test .left),
-      walked-all (at-loop .loop .inv) (none-behind _ _ (c .loop-test .left)),
-    )
+    let at-loop : tie.At-loop Inv-loop μ-loop = search depth 0 in
+    record {
+      answer = no-end (at-loop .loop .inv) (c .loop-test .left);
+      left = walked-laid (at-loop .loop .inv) (none-behind _ _ (c .loop-test .left));
+    }
 
 pub gather-spec : {M : Type 1} → statement M
 gather-spec =

@@ -16,18 +16,14 @@ add-result c = omega arith
 
 returns : tie.Need-returns
 returns c =
-    let start : tie.Start = search depth 0 in (
-      put-more (start .args .line .now) (start .args .count) (start .args .c) (start .pre .0) (c .if1 .taken),
-      omega arith,
-    )
+    let start : tie.Start = search depth 0 in
+    put-more (start .args .line .now) (start .args .count) (start .args .c) (start .pre .0) (c .if1 .taken)
 
 returns-2 : tie.Need-returns-2
 returns-2 c =
-    let start : tie.Start = search depth 0 in (
-      put-full (start .args .line .now) (start .args .count) (start .args .c) (start .pre .0) (c .if1 .left)
-          (start .pre .1),
-      start .pre .1,
-    )
+    let start : tie.Start = search depth 0 in
+    put-full (start .args .line .now) (start .args .count) (start .args .c) (start .pre .0) (c .if1 .left)
+    (start .pre .1)
 
 pub put-spec : {M : Type 1} → statement M
 put-spec = tie.close (tie.spec slice-write-line add-result (λ c. search needs) returns returns-2)
