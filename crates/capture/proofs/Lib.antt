@@ -1,2 +1,4 @@
 pub mod One
 pub mod Walk
+pub mod Numbers
+pub mod Past

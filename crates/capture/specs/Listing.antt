@@ -54,6 +54,11 @@ listing s =
     (pick (less (length s) (bodiesAt (countOf s))) endShort
     (lines s 0 (countOf s) (bodiesAt (countOf s)))))
 
+-- how much of a capture its listing takes note of: 2 octets of count, 4096 entries of 5, 4096 bodies of 255, and one
+-- octet more, by which it is long
+abbrev pub LONGEST : ℕ
+LONGEST = 1064963
+
 -- what any listing fits in: 34 octets a body, and the last line
 abbrev pub ROOM : ℕ
 ROOM = 139274

@@ -1,7 +1,9 @@
 // The lister: reads a capture on standard input to its end and writes its listing. All that matters is `capture::list`.
-// Octets past the longest capture only make it long, so the buffer holds one more than that and the rest is let go.
+// Octets past the longest capture only make it long (`listing-cut` in the proofs of capture), so the buffer holds one
+// more than that and the rest is let go.
 ghost use mathlib.Core.Path.{_≡_};
 ghost use lib.ListN.{length};
+ghost use Rattle.capture.specs.Listing.{LONGEST as Listing·LONGEST, ROOM as Listing·ROOM};
 use libc::STDIN_FILENO;
 use libc::STDOUT_FILENO;
 
@@ -10,12 +12,16 @@ const LONGEST: usize = 1064963;
 
 const ROOM: usize = 139274;
 
-// The buffers. Each `ensures` gives only the length, which lending the array needs.
-fn longest() -> [u8; 1064963] {
+// The buffers: as much of a capture as its listing takes note of, and room for any listing.
+fn longest() -> [u8; 1064963]
+    ensures { λ r. ⌜ length r ≡ Listing·LONGEST ⌝ }
+{
     [0; 1064963]
 }
 
-fn room() -> [u8; 139274] {
+fn room() -> [u8; 139274]
+    ensures { λ r. ⌜ length r ≡ Listing·ROOM ⌝ }
+{
     [0; 139274]
 }
 
