@@ -2,6 +2,7 @@
 ghost use mathlib.Core.Path.{_≡_};
 ghost use Prim.Native.Nat.{_+_, _*_, _≤_};
 ghost use lib.ListN.{length};
+ghost use Rattle.frame_laws.specs.Terms.{Octets};
 ghost use Rattle.laid.specs.Laid.{Lays};
 ghost use Rattle.capture.specs.Listing.{countOf, lengthOf, bodiesAt, last as Listing·last, endShort, lines};
 ghost use Rattle.capture.specs.Listing.{listed, left};
@@ -68,8 +69,9 @@ fn bodies(s: &[u8], count: usize, out: &mut [u8]) -> usize
 }
 
 // Lays the listing of a capture, of whatever octets, and gives its length: 0 if the output has less room than any
-// listing fits in.
+// listing fits in. That a capture is of octets is the premise of what is proved of listings.
 pub fn list(s: &[u8], out: &mut [u8]) -> usize
+    ensures { λ _. ⌜ Octets (now (s .entry)) ⌝ }
     ensures { λ r. ⌜ r ≡ listed (now (s .entry)) (now (out .entry)) ⌝ }
     ensures { λ _. ⌜ now (out .exit) ≡ left (now (s .entry)) (now (out .entry)) ⌝ }
     ensures { λ r. ⌜ r ≤ length (now (out .exit)) ⌝ }

@@ -5,3 +5,4 @@ pub mod Accepted
 pub mod Flips
 pub mod Table
 pub mod Theorems
+pub mod Held

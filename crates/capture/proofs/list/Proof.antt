@@ -5,13 +5,19 @@ use borrow.Author.Needs.{needs}
 use mathlib.Core.Path.{refl}
 use native.Mathlib.Omega.{arith}
 use Rattle.choice.proofs.Rules.{if-less, unless-less}
+use Rattle.frame_laws.proofs.Held.{octets-held}
 use Rattle.capture.proofs.Walk.{listed-laid}
 use Rattle.capture.proofs.list.Statement.{statement}
 use Rattle.capture.proofs.list.Tie as tie
 
 returns : tie.Need-returns
 unfolding listed left
-returns c = (if-less _ (c .if1 .taken) refl, (if-less _ (c .if1 .taken) refl, omega arith))
+returns c =
+    let after-known : tie.After-shared-slice-known = search depth 0 in
+    let at-start : tie.Start = search depth 0 in (
+      octets-held (at-start .args .s .now) (after-known .shared-slice-known .given),
+      (if-less _ (c .if1 .taken) refl, (if-less _ (c .if1 .taken) refl, omega arith)),
+    )
 
 returns-2 : tie.Need-returns-2
 unfolding listing
@@ -19,11 +25,14 @@ returns-2 c =
     let after-cut : tie.After-cut = search depth 0 in
     let then2 : tie.Then2 = search depth 0 in
     let else1 : tie.Else1 = search depth 0 in
+    let after-known : tie.After-shared-slice-known = search depth 0 in
     let at-start : tie.Start = search depth 0 in
-    let a = at-start .args in
-    listed-laid (a .s .now) (a .out .now) endShort 10 _ _ (else1 .if1 .left) (omega arith)
-    (if-less _ (then2 .if2 .taken) refl)
-    (after-cut .cut .ensures)
+    let a = at-start .args in (
+      octets-held (a .s .now) (after-known .shared-slice-known .given),
+      listed-laid (a .s .now) (a .out .now) endShort 10 _ _ (else1 .if1 .left) (omega arith)
+          (if-less _ (then2 .if2 .taken) refl)
+          (after-cut .cut .ensures),
+    )
 
 returns-3 : tie.Need-returns-3
 unfolding listing
@@ -33,12 +42,15 @@ returns-3 c =
     let after-count-of : tie.After-count-of = search depth 0 in
     let else2 : tie.Else2 = search depth 0 in
     let else1 : tie.Else1 = search depth 0 in
+    let after-known : tie.After-shared-slice-known = search depth 0 in
     let at-start : tie.Start = search depth 0 in
     let a = at-start .args in
-    let n = after-count-of .count-of .ensures in
-    listed-laid (a .s .now) (a .out .now) endCount 10 _ _ (else1 .if1 .left) (omega arith)
-    (unless-less _ (else2 .if2 .left) (if-less _ (rw (← n) (then3 .if3 .taken)) refl))
-    (after-lay .lay .ensures)
+    let n = after-count-of .count-of .ensures in (
+      octets-held (a .s .now) (after-known .shared-slice-known .given),
+      listed-laid (a .s .now) (a .out .now) endCount 10 _ _ (else1 .if1 .left) (omega arith)
+          (unless-less _ (else2 .if2 .left) (if-less _ (rw (← n) (then3 .if3 .taken)) refl))
+          (after-lay .lay .ensures),
+    )
 
 returns-4 : tie.Need-returns-4
 unfolding listing bodiesAt
@@ -49,13 +61,16 @@ returns-4 c =
     let after-count-of : tie.After-count-of = search depth 0 in
     let else2 : tie.Else2 = search depth 0 in
     let else1 : tie.Else1 = search depth 0 in
+    let after-known : tie.After-shared-slice-known = search depth 0 in
     let at-start : tie.Start = search depth 0 in
     let a = at-start .args in
-    let n = after-count-of .count-of .ensures in
-    listed-laid (a .s .now) (a .out .now) endShort 10 _ _ (else1 .if1 .left) (omega arith)
-    (unless-less _ (else2 .if2 .left)
-    (unless-less _ (rw (← n) (else3 .if3 .left)) (if-less _ (rw (← n) (then4 .if4 .taken)) refl)))
-    (after-cut2 .cut2 .ensures)
+    let n = after-count-of .count-of .ensures in (
+      octets-held (a .s .now) (after-known .shared-slice-known .given),
+      listed-laid (a .s .now) (a .out .now) endShort 10 _ _ (else1 .if1 .left) (omega arith)
+          (unless-less _ (else2 .if2 .left)
+          (unless-less _ (rw (← n) (else3 .if3 .left)) (if-less _ (rw (← n) (then4 .if4 .taken)) refl)))
+          (after-cut2 .cut2 .ensures),
+    )
 
 bodies-requires : tie.Need-bodies-requires
 unfolding bodiesAt
@@ -70,13 +85,16 @@ returns-5 c =
     let after-count-of : tie.After-count-of = search depth 0 in
     let else2 : tie.Else2 = search depth 0 in
     let else1 : tie.Else1 = search depth 0 in
+    let after-known : tie.After-shared-slice-known = search depth 0 in
     let at-start : tie.Start = search depth 0 in
     let a = at-start .args in
-    let n = after-count-of .count-of .ensures in
-    listed-laid (a .s .now) (a .out .now) _ _ _ _ (else1 .if1 .left) (omega arith)
-    (unless-less _ (else2 .if2 .left)
-    (unless-less _ (rw (← n) (else3 .if3 .left)) (unless-less _ (rw (← n) (else4 .if4 .left)) (cc))))
-    (after-bodies .bodies .ensures)
+    let n = after-count-of .count-of .ensures in (
+      octets-held (a .s .now) (after-known .shared-slice-known .given),
+      listed-laid (a .s .now) (a .out .now) _ _ _ _ (else1 .if1 .left) (omega arith)
+          (unless-less _ (else2 .if2 .left)
+          (unless-less _ (rw (← n) (else3 .if3 .left)) (unless-less _ (rw (← n) (else4 .if4 .left)) (cc))))
+          (after-bodies .bodies .ensures),
+    )
 
 pub list-spec : {M : Type 1} → statement M
 list-spec =

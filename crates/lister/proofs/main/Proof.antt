@@ -10,7 +10,7 @@ slice-aggregate-write-all : tie.Need-slice-aggregate-write-all
 slice-aggregate-write-all c =
     sym
     (length-take-le (c .before .before .list .result) (c .before .before .list .last .1 .0)
-    (c .before .before .list .ensures .1 .1))
+    (c .before .before .list .ensures .1 .1 .1))
 
 pub main-spec : {M : Type 1} → statement M
 main-spec =
