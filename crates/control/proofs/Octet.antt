@@ -30,7 +30,7 @@ service-numbered SrdHigh = (refl, omega arith)
 service-numbered Ident = (refl, omega arith)
 service-numbered Lsap = (refl, omega arith)
 
-code-numbered : (c : Code) → (codeOf (codeNumber c) ≡ c) × (codeNumber c < 16)
+pub code-numbered : (c : Code) → (codeOf (codeNumber c) ≡ c) × (codeNumber c < 16)
 unfolding codeOf pick same
 code-numbered Ok = (refl, omega arith)
 code-numbered Ue = (refl, omega arith)
@@ -42,7 +42,7 @@ code-numbered Dh = (refl, omega arith)
 code-numbered Rdl = (refl, omega arith)
 code-numbered Rdh = (refl, omega arith)
 
-type-numbered : (k : Kind) → (typeOf (typeNumber k) ≡ k) × (typeNumber k < 4)
+pub type-numbered : (k : Kind) → (typeOf (typeNumber k) ≡ k) × (typeNumber k < 4)
 unfolding typeOf pick same
 type-numbered Slave = (refl, omega arith)
 type-numbered NotReady = (refl, omega arith)
@@ -54,7 +54,7 @@ unfolding bit pick same
 bit-same true = refl
 bit-same false = refl
 
-bit-most : (b : Bool) → bit b ≤ 1
+pub bit-most : (b : Bool) → bit b ≤ 1
 unfolding bit pick
 bit-most true = omega arith
 bit-most false = omega arith
