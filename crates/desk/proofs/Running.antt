@@ -5,7 +5,6 @@ use mathlib.Core.List.{List, [], _∷_, _++_, append-nil}
 use mathlib.Core.Path.{_≡_, refl, sym, ap, _∙_}
 use lib.ListN.{length, getD, length-replicate}
 use Rattle.choice.specs.Choice.{pick, less, same, said}
-use Rattle.choice.proofs.Rules.{unrefused}
 use Rattle.request.specs.Record.{SIZE}
 use Rattle.queue.specs.Queue.{AREA}
 use Rattle.typed.specs.Places.{LONGEST}
@@ -14,11 +13,10 @@ use Rattle.typed_call.specs.declared.script.Call.the-variants.{Unknown}
 use Rattle.typed_call.specs.Script.{callOf}
 use Rattle.typed_call.specs.Operands.{settingsOf, tsOf, mastersOf, pointsOf, highOf, lowOf}
 use Rattle.state.specs.declared.State.{State}
-use Rattle.state.specs.World.{World, Event, worldOf, stateOf, accepted, begins, ends, sends, confirmed, collected}
-use Rattle.state.specs.World.{indicated, resets, refused}
+use Rattle.state.specs.World.{World, worldOf, stateOf}
 use Rattle.state.specs.Calls.{Started, Unstarted, Station}
 use Rattle.state.specs.Runs.{Call, call, run, Begun}
-use Rattle.state.proofs.Never.{tells}
+use Rattle.state.proofs.Never.{tells, tells-last}
 use Rattle.state.proofs.Start.{begun-never-29}
 use Rattle.printed_lines.specs.Saying.{unknownLine, playing}
 use Rattle.play.specs.Play.{startBy, namedBy, printedBy, playedBy}
@@ -144,26 +142,7 @@ script-prints (l ∷ s) p d x =
     rw (t .says, script-prints s (next l p) (answer l d .desk) (t .stands)) refl
 
 -- ---- and so no line of a script is refused 29
-tells-behind : (m : ℕ) (a b : List Event) → tells m (a ++ b) ≡ false → tells m b ≡ false
-unfolding tells
-tells-behind m [] b h = h
-tells-behind m (accepted p n ∷ a) b h = tells-behind m a b h
-tells-behind m (begins ∷ a) b h = tells-behind m a b h
-tells-behind m (ends ∷ a) b h = tells-behind m a b h
-tells-behind m (sends x o t ∷ a) b h = tells-behind m a b h
-tells-behind m (confirmed p n s k ∷ a) b h = tells-behind m a b h
-tells-behind m (collected p n r ∷ a) b h = tells-behind m a b h
-tells-behind m (indicated i d ∷ a) b h = tells-behind m a b h
-tells-behind m (resets ∷ a) b h = tells-behind m a b h
-tells-behind m (refused n ∷ a) b h = tells-behind m a b (unrefused (same n m) (tells m (a ++ b)) h .1)
-
-tells-last : (l : List Call) (c : Call) (w : World) → tells 29 (run (l ++ (c ∷ [])) w .events) ≡ false
-    → tells 29 (call c (run l w .world) .events) ≡ false
-unfolding run
-tells-last [] c w h = rw (append-nil (call c w .events)) at h
-tells-last (x ∷ l) c w h = tells-last l c (call x w .world) (tells-behind 29 (call x w .events) _ h)
-
 pub script-never-29 : (p : Past) (d : Desk) → Stands p d → d .begun ≡ true → (c : Call)
     → tells 29 (call c (worldOf (d .state) (d .high) (d .low)) .events) ≡ false
 script-never-29 p d (idle e b) t c = absurd (true≢false (sym t ∙ b))
-script-never-29 p d (ran w r e g b h) t c = rw h (tells-last r c w (begun-never-29 w g (r ++ (c ∷ []))))
+script-never-29 p d (ran w r e g b h) t c = rw h (tells-last 29 r c w (begun-never-29 w g (r ++ (c ∷ []))))
