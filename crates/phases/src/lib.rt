@@ -178,7 +178,7 @@ pub fn awaited(
         Answer::Read(f, p) => good(
             clock,
             f,
-            read::part(s, p.start, p.count),
+            view::data_of(s, p),
             p.count,
             c,
             masters,

@@ -1,7 +1,9 @@
 // The reader of an accepted frame: it refers to the caller's octets and shows the frame's data as that part of them.
 // Each function over it is thin, and proved by a walk of its own. Assumes nothing.
 ghost use mathlib.Core.Path.{_≡_};
-ghost use Rattle.frame.specs.Reading.{part as Reading·part};
+ghost use Rattle.frame.specs.Reading.{shown as Reading·shown};
+ghost use Rattle.view.specs.View.{partOf};
+use frame::Part;
 
 // The frame's octets, and where its data lie in them: the part that reading gave.
 pub struct Reader<'a> {
@@ -10,27 +12,27 @@ pub struct Reader<'a> {
     pub count: usize,
 }
 
-// The reader of a string's part.
-pub fn new<'a>(octets: &'a [u8], start: usize, count: usize) -> Reader<'a>
-    ensures { λ r. ⌜ (r .octets ≡ octets .entry) × ((r .start ≡ start) × (r .count ≡ count)) ⌝ }
+// The reader of an accepted frame: the string that was read, and the part that reading gave.
+pub fn accepted<'a>(octets: &'a [u8], p: Part) -> Reader<'a>
+    ensures { λ r. ⌜ (r .octets ≡ octets .entry) × (partOf r ≡ p) ⌝ }
 {
     Reader {
         octets,
-        start,
-        count,
+        start: p.start,
+        count: p.count,
     }
 }
 
 // The data, as that part of the caller's octets.
 pub fn shown<'a>(r: Reader<'a>) -> &'a [u8]
-    ensures { λ s. ⌜ now s ≡ Reading·part (now (r .entry .octets)) (r .entry .start) (r .entry .count) ⌝ }
+    ensures { λ s. ⌜ now s ≡ Reading·shown (now (r .entry .octets)) (partOf (r .entry)) ⌝ }
 {
     read::part(r.octets, r.start, r.count)
 }
 
-// The data of a string's part, through its reader: whoever calls this needs no walk.
-pub fn data_of(octets: &[u8], start: usize, count: usize) -> &[u8]
-    ensures { λ s. ⌜ now s ≡ Reading·part (now (octets .entry)) start count ⌝ }
+// The data of an accepted frame, through its reader: whoever calls this needs no walk.
+pub fn data_of(octets: &[u8], p: Part) -> &[u8]
+    ensures { λ s. ⌜ now s ≡ Reading·shown (now (octets .entry)) p ⌝ }
 {
-    shown(new(octets, start, count))
+    shown(accepted(octets, p))
 }

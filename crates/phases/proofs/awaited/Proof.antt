@@ -1,6 +1,5 @@
 -- `phases::awaited` meets its contract. Assumes nothing.
 use mathlib.Core.Path.{sym, _∙_}
-use Rattle.frame.specs.Reading.{shown}
 use Rattle.serve.proofs.Telling.{does-as}
 use Rattle.phases.proofs.Phases.{in-flight, awaited-bad, awaited-good}
 use Rattle.phases.proofs.Read.{data-most}
@@ -9,9 +8,8 @@ use Rattle.phases.proofs.awaited.Statement.{statement}
 use Rattle.phases.proofs.awaited.Tie as tie
 
 good-requires : tie.Need-good-requires
-unfolding shown
 good-requires c κs =
-    let after-part : tie.After-part = search depth 0 in
+    let after-data-of : tie.After-data-of = search depth 0 in
     let after-f : tie.After-f = search depth 0 in
     let after-read : tie.After-read = search depth 0 in
     let start : tie.Start = search depth 0 in
@@ -20,7 +18,8 @@ good-requires c κs =
       (
         p .1 .0,
         (
-          rw (after-part .part .ensures) (data-most _ _ _ (sym (after-read .read .ensures) ∙ after-f .f .given .1)),
+          rw (after-data-of .data-of .ensures)
+              (data-most _ _ _ (sym (after-read .read .ensures) ∙ after-f .f .given .1)),
           p .1 .1,
         ),
       ),
@@ -36,15 +35,14 @@ returns c =
     (after-retry .retry .ensures)
 
 returns-2 : tie.Need-returns-2
-unfolding shown
 returns-2 c =
     let after-harea2 : tie.After-harea2 = search depth 0 in
     let after-good2 : tie.After-good2 = search depth 0 in
-    let after-part : tie.After-part = search depth 0 in
+    let after-data-of : tie.After-data-of = search depth 0 in
     let after-f : tie.After-f = search depth 0 in
     let after-read : tie.After-read = search depth 0 in
     does-as (awaited-good _ _ _ (sym (after-read .read .ensures) ∙ after-f .f .given .1))
-    (rw (← in-flight _ _ _ _ _, ← after-part .part .ensures) (after-good2 .good2 .ensures))
+    (rw (← in-flight _ _ _ _ _, ← after-data-of .data-of .ensures) (after-good2 .good2 .ensures))
 
 pub awaited-spec : {M : Type 1} → statement M
 awaited-spec =

@@ -3,7 +3,7 @@
 -- is had twice, and one copy is kept whole for the exit. The callee takes the fields in their order and nothing else,
 -- so what the fields own together is what it asks, by computation. The lifetime's token goes to it and comes back,
 -- and the slice that it returns is the result. Assumes nothing.
-use mathlib.Core.Path.{_≡_, refl}
+use mathlib.Core.Path.{_≡_, refl, _∙_}
 use Prim.Native.Nat.{ℕ}
 use mathlib.Core.List.{List, [], _∷_}
 use lib.Dec.{T as Holds}
@@ -51,6 +51,7 @@ use Rattle.read.proofs.part.Symbol as part-def
 use Rattle.read.proofs.part.Symbol.{name as #read·part}
 use Rattle.read.proofs.part.Met as part-thm
 use Rattle.view.specs.declared.Reader.{Reader}
+use Rattle.view.specs.View.{partOf}
 use Rattle.view.proofs.Reader as T
 use Rattle.view.proofs.Reader.Laws as T′
 use Rattle.view.proofs.shown.Key.{name as #view·shown}
@@ -86,6 +87,10 @@ module _ {M : Type 1} (𝓤 : URA M) (H : Heap 𝓤) (A : Atoms 𝓤) (W : Given
 
   abbrev found : List ℕ
   found = Reading.part (now (d .octets)) (d .start) (d .count)
+
+  is-shown : found ≡ Reading.shown (now (d .octets)) (partOf d)
+  unfolding Reading.shown
+  is-shown = refl
 
   abbrev Post : Val → SProp 𝓤
   Post =
@@ -140,7 +145,7 @@ module _ {M : Type 1} (𝓤 : URA M) (H : Heap 𝓤) (A : Atoms 𝓤) (W : Given
       qed W (‵ (Slice .own r (u ∷ [])) ∷ (‵ (flft κ q) ⊛ ‵ ftrue) ∷ ‵ Own ∷ []) ∵
       suffices ! _
       (ends-at 𝓤 H A shown.ended stayed (shown.clauses 𝓤 H A mem run) W
-      ((κs, (q, tt), tt, (d, tt), (mach ∷ [], tt)), tt) u r (tt, tt) (tt, tt)) $ says ! e $
+      ((κs, (q, tt), tt, (d, tt), (mach ∷ [], tt)), tt) u r (tt, tt) (tt, tt)) $ says ! (e ∙ is-shown) $
       move ! (1 ∷ []) $ frame ! $ nothing ! $ move ! (2 ∷ 0 ∷ []) $ fjoin ! $ frame ! $ done !
 
   module _ (C : Calls 𝓤 H) (Λ : Loops 𝓤 H) (fm : FmC 𝓤 H (W .laws) C)
