@@ -1,92 +1,121 @@
-// A row of request records as a slice of structs lent by the caller: submit, confirm and collect, thin over the queue's
-// decisions. Each function over the slice is proved by a walk of its own. Assumes nothing.
+// A row of request records as a slice of structs lent by the caller, with its data area: submit, confirm and collect,
+// thin over the queue's decisions. What each leaves is what `rows` leaves of the octets that the row stands for. Each
+// function over the slice is proved by a walk of its own. Assumes nothing.
 ghost use mathlib.Core.Path.{_≡_};
-ghost use Prim.Native.Nat.{_<_};
+ghost use Prim.Native.Nat.{_+_, _*_, _<_, _≤_};
 ghost use lib.ListN.{length};
-ghost use Rattle.queue.specs.Queue.{Ruled};
-ghost use Rattle.records.specs.Records.{left, decided, submitted, handed, at as Records·at, put as Records·put};
-ghost use Rattle.records.specs.Records.{refusal as Records·refusal, confirm as Records·confirm};
+ghost use Rattle.request.specs.Record.{SIZE};
+ghost use Rattle.queue.specs.Queue.{AREA, Ruled, taken, closed};
+ghost use Rattle.rows.specs.Rows.{Lent, left, submitted, handed, at as Rows·at};
+ghost use Rattle.rows.specs.Rows.{fill as Rows·fill, confirm as Rows·confirm};
+ghost use Rattle.records.specs.Records.{blank, rowOf, placed, filled};
 use frame::Address;
+use frame::Point;
 use queue::Collected;
 use queue::Queue;
 use queue::Taken;
 use request::Record;
 
+// The record that a row has where there is none.
+fn none() -> Record
+    ensures { λ r. ⌜ r ≡ blank ⌝ }
+{
+    Record {
+        service: 0,
+        destination: Address(0),
+        to: Point(0),
+        from: Point(0),
+        length: 0,
+        status: 0,
+        count: 0,
+    }
+}
+
 // The record at a place.
 pub fn at(row: &[Record], place: usize) -> Record
-    requires { ⌜ place < length (now row) ⌝ }
-    ensures { λ r. ⌜ r ≡ Records·at (now (row .entry)) place ⌝ }
+    ensures { λ r. ⌜ r ≡ Rows·at (rowOf (now (row .entry))) place ⌝ }
 {
+    if row.len() <= place {
+        return none();
+    }
     row[place]
 }
 
-// Puts a record at a place.
-pub fn put(row: &mut [Record], place: usize, r: Record)
-    requires { ⌜ place < length (now row) ⌝ }
-    ensures { λ _. ⌜ now (row .exit) ≡ Records·put (now (row .entry)) place r ⌝ }
+// Decides submit, and puts the data of a request taken at its place of the data area.
+pub fn take(ts: Address, q: Queue, r: Record, x: &[u8], area: &mut [u8]) -> Taken
+    requires { ⌜ (Ruled q) × (length (now area) ≡ AREA * q .places) ⌝ }
+    ensures { λ t. ⌜ (t ≡ taken (ts .0) q r (length (now (x .entry))))
+        × (now (area .exit) ≡ filled t (now (x .entry)) (now (area .entry))) ⌝ }
 {
-    row[place] = r;
+    let t = queue::take(ts, q, r, x.len());
+    if t.refused != 0 {
+        return t;
+    }
+    rows::fill(area, t.place, x);
+    t
 }
 
-// The refusal 21 or 29 of a queue with a row of so many records, or 0.
-fn refusal(q: Queue, places: usize) -> u8
-    ensures { λ r. ⌜ r ≡ Records·refusal q places ⌝ }
+// Puts the record of a request taken at its place of the row, and hands on what was decided.
+pub fn store(t: Taken, row: &mut [Record]) -> Taken
+    requires { ⌜ (t .refused ≡ 0 → t .place < length (now row)) ⌝ }
+    ensures { λ x. ⌜ (x ≡ t) × (rowOf (now (row .exit)) ≡ placed t (rowOf (now (row .entry)))) ⌝ }
 {
-    if queue::misfit(q, 1, places, queue::AREA * frame::wide(q.places)) {
-        return 21;
+    if t.refused == 0 {
+        row[t.place as usize] = t.entry;
     }
-    if queue::overfull(q) {
-        return 29;
-    }
-    0
+    t
 }
 
-// Decides submit, on a row of so many records, of a request with n octets of data.
-fn decide(ts: Address, q: Queue, r: Record, n: usize, places: usize) -> Taken
-    ensures { λ x. ⌜ x ≡ decided (ts .0) q r n places ⌝ }
+// Submits a request with its data.
+pub fn submit(
+    ts: Address,
+    q: Queue,
+    r: Record,
+    x: &[u8],
+    row: &mut [Record],
+    area: &mut [u8],
+) -> Taken
+    requires { ⌜ (Ruled q) × (Lent q (rowOf (now row)) (now area)) ⌝ }
+    ensures { λ t. ⌜ left t (rowOf (now (row .exit))) (now (area .exit))
+        ≡ submitted (ts .0) q r (now (x .entry)) (rowOf (now (row .entry))) (now (area .entry)) ⌝ }
 {
-    let refused = refusal(q, places);
-    if refused != 0 {
-        return queue::refuse(refused, q, r);
-    }
-    queue::take(ts, q, r, n)
+    store(take(ts, q, r, x, area), row)
 }
 
-// Submits a request with n octets of data: its record stands at the place taken.
-pub fn submit(ts: Address, q: Queue, r: Record, n: usize, row: &mut [Record]) -> Taken
-    ensures { λ x. ⌜ left x (now (row .exit)) ≡ submitted (ts .0) q r n (now (row .entry)) ⌝ }
+// The record of a confirmed request; the reply's data go to its place of the data area.
+fn mark(place: u8, r: Record, status: u8, count: u8, x: &[u8], area: &mut [u8]) -> Record
+    requires { ⌜ (AREA * place + AREA ≤ length (now area)) × (length (now x) ≤ AREA) ⌝ }
+    ensures { λ c. ⌜ (c ≡ closed r status count (length (now (x .entry))))
+        × (now (area .exit) ≡ Rows·fill (now (area .entry)) place (now (x .entry))) ⌝ }
 {
-    let x = decide(ts, q, r, n, row.len());
-    if x.refused == 0 {
-        row[x.place as usize] = x.entry;
-    }
-    x
+    rows::fill(area, place, x);
+    queue::close(r, status, count, x.len() as u8)
 }
 
-// Confirms the first unconfirmed request, with n octets of data.
-pub fn confirm(q: Queue, status: u8, count: u8, n: u8, row: &mut [Record]) -> Queue
-    requires { ⌜ (Ruled q) × ((0 < q .unconfirmed) × (length (now row) ≡ q .places)) ⌝ }
-    ensures { λ r. ⌜ left r (now (row .exit)) ≡ Records·confirm q status count n (now (row .entry)) ⌝ }
+// Confirms the first unconfirmed request, with the reply's data.
+pub fn confirm(
+    q: Queue,
+    status: u8,
+    count: u8,
+    x: &[u8],
+    row: &mut [Record],
+    area: &mut [u8],
+) -> Queue
+    requires { ⌜ (Ruled q)
+        × ((0 < q .unconfirmed) × (Lent q (rowOf (now row)) (now area) × (length (now x) ≤ AREA))) ⌝ }
+    ensures { λ r. ⌜ left r (rowOf (now (row .exit))) (now (area .exit))
+        ≡ Rows·confirm q status count (now (x .entry)) (rowOf (now (row .entry))) (now (area .entry)) ⌝ }
 {
-    let place = queue::current(q) as usize;
-    row[place] = queue::close(row[place], status, count, n);
+    let place = queue::current(q);
+    let at = place as usize;
+    row[at] = mark(place, row[at], status, count, x, area);
     queue::confirm(q)
-}
-
-// A refusal as collect answers it.
-fn refused(n: u8) -> Collected
-    ensures { λ r. ⌜ r ≡ Collected.Refused n ⌝ }
-{
-    Collected::Refused(n)
 }
 
 // Hands back the oldest confirmed record and its place's number.
 pub fn collect(q: Queue, row: &[Record]) -> Collected
-    ensures { λ r. ⌜ r ≡ handed q (now (row .entry)) ⌝ }
+    requires { ⌜ (Ruled q) × (length (rowOf (now row)) ≡ SIZE * q .places) ⌝ }
+    ensures { λ r. ⌜ r ≡ handed q (rowOf (now (row .entry))) ⌝ }
 {
-    let n = refusal(q, row.len());
-    if n != 0 {
-        return refused(n);
-    }
-    queue::collect(q, row[q.first as usize])
+    queue::collect(q, at(row, q.first as usize))
 }

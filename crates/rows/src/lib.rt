@@ -31,7 +31,7 @@ pub fn put(row: &mut [u8], place: u8, r: Record)
 }
 
 // Puts octets at a place of the data area.
-fn fill(area: &mut [u8], place: u8, x: &[u8])
+pub fn fill(area: &mut [u8], place: u8, x: &[u8])
     requires { ⌜ (AREA * place + AREA ≤ length (now area)) × (length (now x) ≤ AREA) ⌝ }
     ensures { λ _. ⌜ now (area .exit) ≡ Rows·fill (now (area .entry)) place (now (x .entry)) ⌝ }
 {
