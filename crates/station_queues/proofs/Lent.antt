@@ -5,7 +5,8 @@ use mathlib.Core.Bool.{Bool, true, false}
 use mathlib.Core.Path.{_≡_, refl, sym, ap, _∙_}
 use mathlib.Core.List.{List, [], _∷_}
 use Rattle.choice.specs.Choice.{pick, said, same}
-use Rattle.choice.proofs.Rules.{pick-true, pick-false, same-true, same-false, passed, is-said}
+use Rattle.choice.proofs.Rules.{pick-true, pick-false, same-true, same-false, true-same, false-same, passed}
+use Rattle.choice.proofs.Rules.{is-said}
 use Rattle.request.specs.declared.Record.{Record}
 use Rattle.queue.specs.declared.Queue.{Queue}
 use Rattle.queue.specs.declared.Taken.{Taken}
@@ -20,6 +21,7 @@ use Rattle.state.specs.declared.Priority.the-variants.{High, Low}
 use Rattle.state.specs.declared.Core.{Core}
 use Rattle.state.specs.declared.Kept.{Kept}
 use Rattle.state.specs.declared.State.{State}
+use Rattle.state.specs.declared.Accepted.{Accepted}
 use Rattle.state.specs.World.{Rows, World, Done, rows, accepted, refused, done, queueOf, rowsOf, withQueue, withCore}
 use Rattle.state.specs.World.{withRows, withSite, worldOf, stateOf, stateWith}
 use Rattle.state.specs.Refusals.{unlent, lawless}
@@ -27,7 +29,7 @@ use Rattle.state.specs.Calls.{noRows, called, submitting, collecting}
 use Rattle.state.specs.Calls as Calls
 use Rattle.state.specs.Told.{telling, adds, untold, lent, acceptedOf, submittedOf, handedBackOf, handOf}
 use Rattle.state.proofs.Facts.{lent-rows, lawful, ruled-of}
-use Rattle.station_queues.specs.Decided.{refusalOf, taking, handing}
+use Rattle.station_queues.specs.Decided.{refusalOf, taking, handing, acceptedFor}
 
 -- two refusals and what follows them, each held against what it stands for
 both-of : {A B : Type 0} (f : A → B) (g : ℕ → A) (u l : Bool) {x y : B} (z : A) → f (g 21) ≡ x → f (g 29) ≡ y
@@ -99,7 +101,8 @@ module _ (p : Priority) (c : Core) (masters started : List ℕ) (k : Kept) (n : 
 
 -- where neither refuses, the queue's counts are in order, and the row and the data area are its own
 pub unrefused-lent : (p : Priority) (c : Core) (masters started : List ℕ) (k : Kept) (r : Rows)
-    → refusalOf (queueOf p c) c masters started k r ≡ 0 → Ruled (queueOf p c) × Lent (queueOf p c) (r .row) (r .area)
+    → refusalOf (unlent (queueOf p c) r) c masters started k ≡ 0 → Ruled (queueOf p c) × Lent (queueOf p c) (r .row)
+    (r .area)
 unfolding refusalOf
 unrefused-lent p c masters started k r e =
     let u = passed _ 21 _ (omega arith) e in
@@ -115,7 +118,7 @@ module _ (s : State) (p : Priority) (n : Record) (x row area : List ℕ) {t : Ta
       ≡ submittedOf p (Calls.submit p n x (lent p s (rows row area)))
   by-decision = rw e (ap (submittedOf p) (submit-by s n x (rows row area) p))
 
-  pub submit-refused : (t .refused ≡ 0 → ⊥)
+  submit-refused : (t .refused ≡ 0 → ⊥)
       → left (record { refused = t .refused; state = s; place = 0 }) row′ area′
       ≡ submittedOf p (Calls.submit p n x (lent p s (rows row area)))
   unfolding submitting
@@ -127,15 +130,26 @@ module _ (s : State) (p : Priority) (n : Record) (x row area : List ℕ) {t : Ta
       ∙ ap (λ (d : Done). submittedOf p (called d (lent p s (rows row area)))) (sym (pick-false _ _ (same-false h)))
       ∙ by-decision)
 
-  pub submit-taken : {c : Core} → t .refused ≡ 0 → c ≡ withQueue p (t .queue) (s .core)
-      → left (record { refused = 0; state = stateWith c s; place = t .place }) row′ area′
-      ≡ submittedOf p (Calls.submit p n x (lent p s (rows row area)))
+  submit-taken : t .refused ≡ 0
+      → left (record { refused = 0; state = stateWith (withQueue p (t .queue) (s .core)) s; place = t .place }) row′
+      area′ ≡ submittedOf p (Calls.submit p n x (lent p s (rows row area)))
   unfolding submitting
-  submit-taken h b =
-      rw b
-      (sym (left-accepted p (t .place) (t .queue) row′ area′ s (rows row area))
+  submit-taken h =
+      sym (left-accepted p (t .place) (t .queue) row′ area′ s (rows row area))
       ∙ ap (λ (d : Done). submittedOf p (called d (lent p s (rows row area)))) (sym (pick-true _ _ (same-true h)))
-      ∙ by-decision)
+      ∙ by-decision
+
+  submit-either : (b : Bool) → same (t .refused) 0 ≡ b
+      → left (acceptedFor p t s) row′ area′ ≡ submittedOf p (Calls.submit p n x (lent p s (rows row area)))
+  unfolding acceptedFor
+  submit-either true f =
+      ap (λ (a : Accepted). left a row′ area′) (pick-true _ _ f) ∙ submit-taken (true-same _ _ f)
+  submit-either false f =
+      ap (λ (a : Accepted). left a row′ area′) (pick-false _ _ f) ∙ submit-refused (false-same _ _ f)
+
+  pub submit-by-decision : left (acceptedFor p t s) row′ area′
+      ≡ submittedOf p (Calls.submit p n x (lent p s (rows row area)))
+  submit-by-decision = submit-either _ refl
 
 -- ---- collect
 uncollecting : (p : Priority) (k : ℕ) (w : World) → called (collecting p (Refused k) (w .site)) w ≡ Calls.refuse k w
@@ -163,21 +177,8 @@ handed-by High (Handed k n q) s r = refl
 handed-by Low (Refused k) s r = refl
 handed-by Low (Handed k n q) s r = refl
 
--- the call, by what the code finds: nothing to hand back, or a record
+-- the call, by what was decided
 module _ (s : State) (p : Priority) (row area : List ℕ) {c : Collected}
     (e : c ≡ handing p (s .core) (s .masters .0) (s .started .0) (s .memory .kept) (rows row area)) where
-  collect-hand : handOf p c s ≡ handedBackOf (Calls.collect p (lent p s (rows row area)))
+  pub collect-hand : handOf p c s ≡ handedBackOf (Calls.collect p (lent p s (rows row area)))
   collect-hand = rw e (handed-by p _ s (rows row area) ∙ ap handedBackOf (collect-by s (rows row area) p))
-
-  pub collect-refused : {k : ℕ} {n : Record} → c ≡ Refused k → n ≡ untold .entry
-      → record { refused = k; state = s; place = 0; entry = n }
-      ≡ handedBackOf (Calls.collect p (lent p s (rows row area)))
-  unfolding handOf
-  collect-refused h b = rw b (ap (λ (c : Collected). handOf p c s) (sym h) ∙ collect-hand)
-
-  pub collect-handed : {k : ℕ} {n : Record} {r : Queue} {core : Core} → c ≡ Handed k n r
-      → core ≡ withQueue p r (s .core)
-      → record { refused = 0; state = stateWith core s; place = k; entry = n }
-      ≡ handedBackOf (Calls.collect p (lent p s (rows row area)))
-  unfolding handOf
-  collect-handed h b = rw b (ap (λ (c : Collected). handOf p c s) (sym h) ∙ collect-hand)

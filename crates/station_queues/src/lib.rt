@@ -1,10 +1,13 @@
 // The station's calls submit and collect: each takes any state, any row and any octets, and answers. Assumes nothing.
 ghost use mathlib.Core.Path.{_≡_};
+ghost use Prim.Native.Nat.{_≤_};
+ghost use Rattle.queue.specs.Queue.{misfit};
 ghost use Rattle.rows.specs.Rows.{left};
 ghost use Rattle.state.specs.World.{rows};
 ghost use Rattle.state.specs.Calls.{submit as Calls·submit, collect as Calls·collect};
-ghost use Rattle.state.specs.Told.{untold, lent, submittedOf, handedBackOf};
-ghost use Rattle.station_queues.specs.Decided.{refusalOf, taking as Decided·taking, handing as Decided·handing};
+ghost use Rattle.state.specs.Told.{untold, lent, submittedOf, handedBackOf, handOf};
+ghost use Rattle.station_queues.specs.Decided.{refusalOf, acceptedFor, taking as Decided·taking};
+ghost use Rattle.station_queues.specs.Decided.{handing as Decided·handing};
 use frame::Address;
 use frame::Point;
 use queue::Collected;
@@ -18,21 +21,22 @@ use state::Kept;
 use state::Priority;
 use state::State;
 
-// The refusal of submit and collect for the row or the state, or 0.
-fn refusal(
+// The refusal of submit and collect for the state, or for a row of so many octets or records, so many for each place,
+// and a data area of so many octets; or 0.
+pub fn refusal(
     q: Queue,
     c: Core,
     masters: &[u8; 127],
     started: &[u8; 127],
     k: Kept,
-    row: &[u8],
-    area: &[u8],
+    each: usize,
+    row: usize,
+    area: usize,
 ) -> u8
-    ensures { λ r. ⌜ r
-        ≡ refusalOf q c (now (masters .entry)) (now (started .entry)) k
-        (rows (now (row .entry)) (now (area .entry))) ⌝ }
+    requires { ⌜ each ≤ 255 ⌝ }
+    ensures { λ r. ⌜ r ≡ refusalOf (misfit q each row area) c (now (masters .entry)) (now (started .entry)) k ⌝ }
 {
-    if refusals::unlent(q, row, area) {
+    if queue::misfit(q, each, row, area) {
         return 21;
     }
     if refusals::lawless(c, masters, started, k) {
@@ -59,11 +63,42 @@ fn taking(
 {
     let ts = c.ts;
     let q = acts::queue_of(p, c);
-    let n = refusal(q, c, masters, started, k, row, area);
+    let n = refusal(
+        q,
+        c,
+        masters,
+        started,
+        k,
+        request::SIZE,
+        row.len(),
+        area.len(),
+    );
     if n != 0 {
         return queue::refuse(n, q, r);
     }
     rows::submit(ts, q, r, x, row, area)
+}
+
+// What submit answers, by what it decided.
+pub fn accepting(s: State, p: Priority, t: Taken) -> Accepted
+    ensures { λ a. ⌜ a ≡ acceptedFor p t s ⌝ }
+{
+    let core = s.core;
+    let queue = t.queue;
+    let mut state = s;
+    if t.refused != 0 {
+        return Accepted {
+            refused: t.refused,
+            state,
+            place: 0,
+        };
+    }
+    state.core = acts::with_queue(p, queue, core);
+    Accepted {
+        refused: 0,
+        state,
+        place: t.place,
+    }
 }
 
 // Submits a request with its data to a queue, whose row and data area are lent.
@@ -83,22 +118,8 @@ pub fn submit(
     let masters = s.masters.0;
     let started = s.started.0;
     let kept = s.memory.kept;
-    let mut state = s;
     let t = taking(p, core, &masters, &started, kept, r, x, row, area);
-    let queue = t.queue;
-    if t.refused != 0 {
-        return Accepted {
-            refused: t.refused,
-            state,
-            place: 0,
-        };
-    }
-    state.core = acts::with_queue(p, queue, core);
-    Accepted {
-        refused: 0,
-        state,
-        place: t.place,
-    }
+    accepting(s, p, t)
 }
 
 // What collect decides.
@@ -116,7 +137,16 @@ fn handing(
         (rows (now (row .entry)) (now (area .entry))) ⌝ }
 {
     let q = acts::queue_of(p, c);
-    let n = refusal(q, c, masters, started, k, row, area);
+    let n = refusal(
+        q,
+        c,
+        masters,
+        started,
+        k,
+        request::SIZE,
+        row.len(),
+        area.len(),
+    );
     if n != 0 {
         return Collected::Refused(n);
     }
@@ -138,16 +168,13 @@ fn no_record() -> Record
     }
 }
 
-// Hands back the oldest confirmed record of a queue, whose row and data area are lent, and frees its place.
-pub fn collect(s: State, p: Priority, row: &[u8], area: &[u8]) -> HandedBack
-    ensures { λ r. ⌜ r ≡ handedBackOf (Calls·collect p (lent p s (rows (now (row .entry)) (now (area .entry))))) ⌝ }
+// What collect answers, by what it decided.
+pub fn returning(s: State, p: Priority, c: Collected) -> HandedBack
+    ensures { λ r. ⌜ r ≡ handOf p c s ⌝ }
 {
     let core = s.core;
-    let masters = s.masters.0;
-    let started = s.started.0;
-    let kept = s.memory.kept;
     let mut state = s;
-    match handing(p, core, &masters, &started, kept, row, area) {
+    match c {
         Collected::Refused(n) => HandedBack {
             refused: n,
             state,
@@ -168,4 +195,16 @@ pub fn collect(s: State, p: Priority, row: &[u8], area: &[u8]) -> HandedBack
             }
         }
     }
+}
+
+// Hands back the oldest confirmed record of a queue, whose row and data area are lent, and frees its place.
+pub fn collect(s: State, p: Priority, row: &[u8], area: &[u8]) -> HandedBack
+    ensures { λ r. ⌜ r ≡ handedBackOf (Calls·collect p (lent p s (rows (now (row .entry)) (now (area .entry))))) ⌝ }
+{
+    let core = s.core;
+    let masters = s.masters.0;
+    let started = s.started.0;
+    let kept = s.memory.kept;
+    let c = handing(p, core, &masters, &started, kept, row, area);
+    returning(s, p, c)
 }

@@ -1,5 +1,7 @@
 -- `station_queues::taking` meets its contract. Assumes nothing.
 use mathlib.Core.Path.{sym, _∙_}
+use Rattle.state.specs.World.{rows}
+use Rattle.state.specs.Refusals.{unlent}
 use Rattle.station_queues.specs.Decided.{taking}
 use Rattle.station_queues.proofs.Lent.{unrefused-lent}
 use Rattle.choice.proofs.Rules.{if-same, unless-same}
@@ -8,7 +10,7 @@ use Rattle.station_queues.proofs.taking.Statement.{statement}
 use Rattle.station_queues.proofs.taking.Tie as tie
 
 returns : tie.Need-returns
-unfolding taking
+unfolding taking unlent
 returns c =
     let after-queue-of : tie.After-queue-of = search depth 0 in
     let after-refusal : tie.After-refusal = search depth 0 in
@@ -18,16 +20,18 @@ returns c =
     (unless-same _ (then1 .if1 .taken) (rw (after-refuse .refuse .ensures)))
 
 submit-requires : tie.Need-submit-requires
+unfolding unlent
 submit-requires c κs =
+    let start : tie.Start = search depth 0 in
     let after-queue-of : tie.After-queue-of = search depth 0 in
     let after-refusal : tie.After-refusal = search depth 0 in
     let else1 : tie.Else1 = search depth 0 in
     rw (after-queue-of .queue-of .ensures)
-    (unrefused-lent _ _ _ _ _ _
+    (unrefused-lent _ _ _ _ _ (rows (start .args .row .now) (start .args .area .now))
     (rw (after-queue-of .queue-of .ensures) at (sym (after-refusal .refusal .ensures) ∙ else1 .if1 .left)))
 
 returns-2 : tie.Need-returns-2
-unfolding taking
+unfolding taking unlent
 returns-2 c =
     let after-queue-of : tie.After-queue-of = search depth 0 in
     let after-refusal : tie.After-refusal = search depth 0 in
@@ -43,8 +47,6 @@ taking-spec =
     (λ c κs. search needs)
     (λ c κs. search needs)
     (λ c κs. search needs)
-    (λ c. search needs)
-    (λ c. search needs)
     returns
     submit-requires
     (λ c. search needs)
