@@ -7,11 +7,9 @@ use mathlib.Core.List.{List, [], _∷_}
 use native.Mathlib.Omega.{arith}
 use lib.ListN.{length}
 use Rattle.choice.specs.Choice.{pick}
-use Rattle.choice.proofs.Rules.{by-pick, false-same}
 use Rattle.laid.specs.Laid.{laid}
 use Rattle.times.specs.declared.Settings.{Settings}
 use Rattle.request.specs.declared.Record.{Record}
-use Rattle.queue.specs.declared.Taken.{Taken as Decided}
 use Rattle.rows.specs.Rows.{Left, left}
 use Rattle.state.specs.declared.Priority.{Priority}
 use Rattle.state.specs.declared.Priority.the-variants.{High, Low}
@@ -19,11 +17,11 @@ use Rattle.state.specs.declared.Accepted.{Accepted}
 use Rattle.state.specs.declared.Answer.{Answer}
 use Rattle.state.specs.declared.Renewed.{Renewed}
 use Rattle.state.specs.declared.HandedBack.{HandedBack}
-use Rattle.state.specs.World.{Rows, Site, World, Done, Called, rows, worldOf, stateOf, rowsOf, done, accepted}
+use Rattle.state.specs.World.{Rows, World, Called, rows, worldOf, stateOf, rowsOf, done, accepted}
 use Rattle.state.specs.World.{refused}
 use Rattle.state.specs.Told.{Leaves, leaves, told, resetOf, startedOf, lent, acceptedOf, answerOf, handedBackOf}
 use Rattle.state.specs.Told.{submittedOf, adds, telling}
-use Rattle.state.specs.Calls.{Started, Unstarted, Station, refuse, called, submitting}
+use Rattle.state.specs.Calls.{Started, Unstarted, Station, refuse, called}
 use Rattle.state.specs.Calls as Calls
 use Rattle.state.specs.Runs.{Call, submit, frame, sent, slot, reset, collect, call, run, Begun}
 use Rattle.state.specs.Fate.{Served, fate, newborn}
@@ -32,7 +30,7 @@ use Rattle.state.specs.Callers.{Chain, Keeps, worldFor, keepsIn, rowFor,
 use Rattle.state.specs.Callers.{hands, Makes, Starts, replyOf, refusedBy}
 use Rattle.state.specs.Callers.Chain.{none, more}
 use Rattle.state.specs.Callers.Makes.{by-submit, by-frame, by-sent, by-slot, by-reset, by-collect}
-use Rattle.state.proofs.Cases.{by}
+use Rattle.state.proofs.Submission.{Submission, declines, admits, submission}
 use Rattle.state.proofs.Beside.{other, beside, Beside, submit-beside, collect-beside, collect-keeps}
 use Rattle.state.proofs.Never.{run-untold}
 use Rattle.state.proofs.Start.{begun-never-29}
@@ -211,38 +209,17 @@ caller-answered {c = c} {out = out} x y =
     made y .answer ∙ ap (λ (w : World). replyOf c out (call c w)) (caller-runs x)
 
 -- ---- demand 3, of callers: a request that submit answered with a place
-untold-refusal : (n : ℕ) (w : World) (p : Priority) → 0 < n → telling (refuse n w .events) .refused ≡ 0
-    → refuse n w .events ≡ accepted p (telling (refuse n w .events) .place) ∷ []
-unfolding refuse telling adds
-untold-refusal n w p h e = absurd (omega (arith, h, e))
-
-record Taken (p : Priority) (d : Called) : Type 0 where
-  taken : telling (d .events) .refused ≡ 0 → d .events ≡ accepted p (telling (d .events) .place) ∷ []
-
-took : (p : Priority) (s : Site) (n : ℕ) (w : World) → Taken p (called (done s (accepted p n ∷ [])) w)
-unfolding called done telling adds
-took p s n w = record { taken = λ e. refl }
-
-untook : (p : Priority) (s : Site) (n : ℕ) (w : World) → (n ≡ 0 → ⊥) → Taken p (called (done s (refused n ∷ [])) w)
-unfolding called done telling adds
-untook p s n w h = record { taken = λ e. absurd (h e) }
-
-submitting-taken : (p : Priority) (l : Left Decided) (w : World) → Taken p (called (submitting p l (w .site)) w)
-unfolding submitting
-submitting-taken p l w =
-    by (λ (d : Done). Taken p (called d w)) _ _ _ (λ b. took p _ _ w) (λ b. untook p _ _ w (false-same _ _ b))
-
-submit-taken : (p : Priority) (r : Record) (x : List ℕ) (w : World) → Taken p (Calls.submit p r x w)
-unfolding Calls.submit
-submit-taken p r x w =
-    by-pick (Taken p) _ (record { taken = untold-refusal 21 w p (omega arith) })
-    (by-pick (Taken p) _ (record { taken = untold-refusal 29 w p (omega arith) }) (submitting-taken p _ w))
+taken-by : {p : Priority} {r : Record} {x : List ℕ} {w : World} {d : Called} → Submission p r x w d
+    → telling (d .events) .refused ≡ 0 → d .events ≡ accepted p (telling (d .events) .place) ∷ []
+unfolding refuse called done telling adds
+taken-by (declines m h) e = absurd (h e)
+taken-by (admits l g a i) e = refl
 
 pub accepted-at : (p : Priority) (r : Record) (x : List ℕ) (w : World)
     → acceptedOf (call (submit p r x) w) .refused ≡ 0
     → call (submit p r x) w .events ≡ accepted p (acceptedOf (call (submit p r x) w) .place) ∷ []
 unfolding call acceptedOf
-accepted-at p r x w e = submit-taken p r x w .taken e
+accepted-at p r x w e = taken-by (submission p r x w) e
 
 takenBy : Reply → Accepted → Accepted
 takenBy (takes a) b = a

@@ -5,36 +5,31 @@ use mathlib.Core.Bool.{Bool, true, false, true≢false}
 use mathlib.Core.Path.{_≡_, refl, sym, ap, _∙_}
 use mathlib.Core.List.{List, [], _∷_}
 use native.Mathlib.Omega.{arith}
-use Rattle.choice.proofs.Rules.{pick-true, true-same, false-same, is-said}
+use Rattle.choice.proofs.Rules.{pick-true, false-same}
 use Rattle.times.specs.declared.Settings.{Settings}
 use Rattle.request.specs.declared.Record.{Record}
 use Rattle.queue.specs.declared.Queue.{Queue}
-use Rattle.queue.specs.declared.Taken.{Taken}
-use Rattle.queue.specs.Queue as Q
 use Rattle.queue.specs.Queue.{take}
 use Rattle.queue.proofs.Laws.{ruled}
-use Rattle.rows.specs.Rows.{Left}
-use Rattle.rows.proofs.Submitted.{Outcome, outcome}
-use Rattle.rows.proofs.Submitted.Outcome.{as-it-was, with-it}
 use Rattle.state.specs.declared.Phase.{Phase}
 use Rattle.state.specs.declared.Priority.{Priority}
 use Rattle.state.specs.declared.Priority.the-variants.{High, Low}
 use Rattle.state.specs.declared.Doing.{Doing}
 use Rattle.state.specs.declared.Core.{Core}
-use Rattle.state.specs.World.{World, Event, Done, Called, accepted, refused, done, withQueue, queueOf}
+use Rattle.state.specs.World.{World, Called, accepted, done, withQueue, queueOf}
 use Rattle.state.specs.World.{withCore, rowsOf, withRows, withSite}
 use Rattle.state.specs.Refusals.{oddIn}
 use Rattle.state.specs.Calls as Calls
-use Rattle.state.specs.Calls.{called, refuse, submitting}
+use Rattle.state.specs.Calls.{called, refuse}
 use Rattle.state.specs.Runs.{Call, call, run, Begun}
 use Rattle.state.specs.Runs.Call.{submit}
 use Rattle.state.specs.Fate.{Fate, newborn, fate, Served}
 use Rattle.state.specs.Precedence.{nobody, lineLast}
-use Rattle.state.proofs.Cases.{by}
 use Rattle.state.proofs.Facts.{lent-rows, lawful, lawful-phase}
+use Rattle.state.proofs.Submission.{placed, Submission, declines, admits, submission}
 use Rattle.state.proofs.Refused.{refuses}
 use Rattle.state.proofs.Precedence.{waiting-is}
-use Rattle.state.proofs.Places.{Rowed, waiting-new, rowed-grown}
+use Rattle.state.proofs.Places.{waiting-new, rowed-grown}
 use Rattle.state.proofs.Fates.{fresh-born, Fresh}
 use Rattle.state.proofs.Phases.{flight, odd-by}
 use Rattle.state.proofs.Standing.{Stage, off, ours, ahead, lower, Standing, waits, shut, gone, StandsAt}
@@ -99,60 +94,22 @@ stage-new k limit g true High h e s = ahead h e (s h e) fresh-born (omega arith)
 stage-new k limit g true Low h e s =
     lower h e (record { fresh = fresh-born; time = omega arith; slack = λ z. absurd (true≢false (sym z)) })
 
--- the place in an acceptance
-unfoldable pub placed : List Event → ℕ
-placed [] = 0
-placed (accepted y n ∷ l) = n
-placed (Event.begins ∷ l) = 0
-placed (Event.ends ∷ l) = 0
-placed (Event.sends x o t ∷ l) = 0
-placed (Event.confirmed q n s k ∷ l) = 0
-placed (Event.collected q n r ∷ l) = 0
-placed (Event.indicated h d ∷ l) = 0
-placed (Event.resets ∷ l) = 0
-placed (refused n ∷ l) = 0
-
 -- a call that accepts the high request at place p: so it stands then
-record Enters (p k limit : ℕ) (d : Called) : Type 0 where
-  enters : d .events ≡ accepted High p ∷ [] → StandsAt p k limit (d .world .site) newborn
-
-module _ (p k limit : ℕ) where
-  never-refused : (n : ℕ) (w : World) → Enters p k limit (refuse n w)
-  unfolding refuse refuses
-  never-refused n w = record { enters = λ e. absurd (true≢false (ap refuses e)) }
-
-  stands-new : (ts : ℕ) (r : Record) (x : List ℕ) (l : Left Taken) (w : World) → w .site .core .high .unconfirmed ≡ k
-      → w .site .core .settings .retries .0 ≡ limit
-      → oddIn (w .site .core .doing .phase) (w .site .core) (w .site .masters) ≡ false
-      → Rowed (w .site .core .high) (w .site .high .row)
-      → Outcome ts (w .site .core .high) r x (w .site .high .row) (w .site .high .area) l
-      → Enters p k limit (called (submitting High l (w .site)) w)
-  unfolding called withSite submitting done withRows withCore withQueue take Q.refuse placed refuses
-  stands-new ts r x l w e t o u (as-it-was n z i) =
-      rw (← i)
-      (by (λ (d : Done). Enters p k limit (called d w)) _ _ _ (λ b. absurd (z (true-same n 0 b)))
-      (λ b. record { enters = λ q. absurd (true≢false (ap refuses q)) }))
-  stands-new ts r x l w e t o u (with-it a i) =
-      rw (← i)
-      (by (λ (d : Done). Enters p k limit (called d w)) _ _ _
-      (λ b. record {
-        enters = λ q. rw (← ap placed q, ← e, ← t)
-            (waits _
-            (record
-            { limits = refl; rowed = rowed-grown _ _ _ u (a .room) })
-            (waiting-new _)
-            (stage-new _ _ _ _ _ refl refl (some-sent _ (w .site .core) (w .site .masters) o)));
-      })
-      (λ b. record { enters = λ q. absurd (true≢false (ap refuses q)) }))
-
-  submit-enters : (r : Record) (x : List ℕ) (w : World) → w .site .core .high .unconfirmed ≡ k
-      → w .site .core .settings .retries .0 ≡ limit → Enters p k limit (Calls.submit High r x w)
-  unfolding Calls.submit queueOf rowsOf
-  submit-enters r x w e t =
-      by (Enters p k limit) _ _ _ (λ b. never-refused 21 w)
-      (λ b. by (Enters p k limit) _ _ _ (λ b. never-refused 29 w)
-      (λ d. stands-new _ r x _ w e t (lawful-phase _ _ _ _ (is-said d))
-      (record { ruled = lawful _ _ _ _ (is-said d) .high; long = lent-rows _ _ (is-said b) .places }) (outcome _ _ r x _ _)))
+enters : (p : ℕ) {r : Record} {x : List ℕ} {w : World} {d : Called} → Submission High r x w d
+    → d .events ≡ accepted High p ∷ []
+    → StandsAt p (w .site .core .high .unconfirmed) (w .site .core .settings .retries .0) (d .world .site) newborn
+unfolding called withSite done withRows withCore withQueue queueOf rowsOf take refuse refuses placed
+enters p (declines m h) e = absurd (true≢false (ap refuses e))
+enters p {w = w} (admits l g a i) e =
+    rw (← ap placed e)
+    (waits _
+    (record {
+      limits = refl;
+      rowed =
+          rowed-grown _ _ _ (record { ruled = lawful _ _ _ _ g .high; long = lent-rows _ _ l .places }) (a .room);
+    })
+    (waiting-new _)
+    (stage-new _ _ _ _ _ refl refl (some-sent _ (w .site .core) (w .site .masters) (lawful-phase _ _ _ _ g))))
 
 -- ---- the theorem, of any world that accepts the request
 pub served : (w : World) (r : Record) (x : List ℕ) (p : ℕ) (after : List Call)
@@ -162,8 +119,7 @@ pub served : (w : World) (r : Record) (x : List ℕ) (p : ℕ) (after : List Cal
 unfolding call
 served w r x p after e =
     standing-served
-    (holds-run p _ _ after (Calls.submit High r x w .world) newborn (submit-enters p _ _ r x w refl refl .enters e)
-    .stands)
+    (holds-run p _ _ after (Calls.submit High r x w .world) newborn (enters p (submission High r x w) e) .stands)
 
 -- demand 3: "After a start and before any other, if each call is given the station's state and each queue row, data
 -- included, just as the call before left them": of all calls before the request and all calls after it. k is how many

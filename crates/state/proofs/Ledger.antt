@@ -51,7 +51,8 @@ use Rattle.state.proofs.Staying.{alike-itself, Asks, itself, asked-sent
 use Rattle.state.proofs.Staying.{asks-effect, Held, pending, held-of, held-carries, held-lasts}
 use Rattle.state.proofs.Solely.{files, filing, solely, unfiled-before}
 use Rattle.state.proofs.Writable.{reads}
-use Rattle.state.proofs.Entering.{open-new, Submission, declines, admits, submission}
+use Rattle.state.proofs.Submission.{Submission, declines, admits, submission}
+use Rattle.state.proofs.Entering.{open-new}
 
 -- an acceptance
 unfoldable enrols : Event → Bool
@@ -214,9 +215,9 @@ module _ (ts : ℕ) (r : Record) (x : List ℕ) (w : World) (i : w .site .core .
       → Booked y ts l (queueAt y (w .site)) (rowsAt y (w .site))
       → Booked y ts (entering y ts r x (d .events) l) (queueAt y (d .world .site)) (rowsAt y (d .world .site))
   unfolding refuse called done withSite accepts
-  booked-submission y z f (declines m) b =
+  booked-submission y z f (declines m h) b =
       booked-like y ts l _ (λ n. pick-true _ _ (never-one (accepts y n) (refused m) refl)) b
-  booked-submission y z f (admits g) b = booked-admitted y z f g b
+  booked-submission y z f (admits l k g i) b = booked-admitted y z f g b
 
 -- ---- calls that are no submit accept nothing
 unfiled-unenrolled : (e : Event) → files e ≡ false → enrols e ≡ false

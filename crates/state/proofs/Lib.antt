@@ -3,6 +3,7 @@ pub mod Facts
 pub mod Phases
 pub mod Choices
 pub mod Acts
+pub mod Submission
 pub mod Answers
 pub mod Hearing
 pub mod Walk

@@ -23,7 +23,8 @@ use Rattle.state.proofs.Lasting.{filed-at, lasts-run, lasts-met}
 use Rattle.state.proofs.Entries.{Open}
 use Rattle.state.proofs.Staying.{Asks, asked-sent, asked-collected, waits, pending, held-of, holds}
 use Rattle.state.proofs.Writable.{reads}
-use Rattle.state.proofs.Entering.{submission, entered}
+use Rattle.state.proofs.Submission.{submission}
+use Rattle.state.proofs.Entering.{entered}
 
 -- ---- the theorems: after a start and any calls, a request is submitted to the queue p with the record r and the
 -- data x, and accepted at place n; then come any calls

@@ -17,14 +17,11 @@ use Rattle.frame.specs.Reading.{read}
 use Rattle.ring.specs.Ring.{member}
 use Rattle.request.specs.declared.Record.{Record}
 use Rattle.queue.specs.declared.Queue.{Queue}
-use Rattle.queue.specs.declared.Taken.{Taken}
 use Rattle.queue.specs.declared.Collected.{Collected}
 use Rattle.queue.specs.declared.Collected.the-variants.{Refused as Uncollected, Handed}
 use Rattle.queue.specs.Queue as Q
-use Rattle.queue.specs.Queue.{freed, take}
-use Rattle.rows.specs.Rows.{Left, left, at, confirm, drain, submitted, handed}
-use Rattle.rows.proofs.Submitted.{Outcome, outcome}
-use Rattle.rows.proofs.Submitted.Outcome.{as-it-was, with-it}
+use Rattle.queue.specs.Queue.{freed}
+use Rattle.rows.specs.Rows.{Left, left, at, confirm, drain, handed}
 use Rattle.state.specs.declared.Phase.{Phase}
 use Rattle.state.specs.declared.Phase.the-variants.{Idle, Awaited, Sdn, Check, ToSelf}
 use Rattle.state.specs.declared.Priority.{Priority}
@@ -43,7 +40,7 @@ use Rattle.state.specs.Hold.{concluded}
 use Rattle.state.specs.Answering.{UPDATE, Answered}
 use Rattle.state.specs.Refusals.{lawless}
 use Rattle.state.specs.Calls as Calls
-use Rattle.state.specs.Calls.{called, replying, refuse, nothing, submitting, collecting, responder, idle}
+use Rattle.state.specs.Calls.{called, replying, refuse, nothing, collecting, responder, idle}
 use Rattle.state.specs.Calls.{idleRead}
 use Rattle.state.specs.Calls.{awaitedRead, heard, sentIn, slotIn, dismissed, dismissal, broken, countOf}
 use Rattle.state.specs.Calls.{drained, forgotten, freshWorld, resetting}
@@ -55,6 +52,7 @@ use Rattle.state.proofs.Phases.{flight, broken-by}
 use Rattle.state.proofs.Acts.{Point, calm, free, choosing, passing, halting, clearing, Closing, Move, Trail}
 use Rattle.state.proofs.Acts.{stop, move, act, filled}
 use Rattle.state.proofs.Acts as Acts
+use Rattle.state.proofs.Submission.{Submission, declines, admits, submission}
 use Rattle.state.proofs.Answers.{Answers, none, replied, shown, Answering, answering-answer, few-answers}
 use Rattle.state.proofs.Hearing.{Memorable, Lawful, statusBy, Minds, minds-answer, read-token, read-source}
 use Rattle.state.proofs.Hearing.{lawful-judged, short-updates}
@@ -345,21 +343,11 @@ spurned : (n : ℕ) (w : World) → Course w (called (done (w .site) (refused n 
 unfolding called done withSite refuse
 spurned n w = declined n
 
-abbrev submittedTo : Priority → Record → List ℕ → Site → Left Taken
-submittedTo y r x s = submitted (s .core .ts .0) (queueOf y (s .core)) r x (rowsOf y s .row) (rowsOf y s .area)
-
-course-submit : (y : Priority) (r : Record) (x : List ℕ) (w : World)
-    → Outcome (w .site .core .ts .0) (queueOf y (w .site .core)) r x (rowsOf y (w .site) .row)
-    (rowsOf y (w .site) .area) (submittedTo y r x (w .site))
-    → Course w (called (submitting y (submittedTo y r x (w .site)) (w .site)) w)
-unfolding submitting done take Q.refuse sendingsIn sendingOf
-course-submit y r x w (as-it-was n z e) =
-    rw (← e) (by (λ (d : Done). Course w (called d w)) _ _ _ (λ b. absurd (z (true-same n 0 b))) (λ b. spurned n w))
-course-submit y r x w (with-it a e) =
-    rw (← e)
-    (by (λ (d : Done). Course w (called d w)) _ _ _
-    (λ b. carried (carried-called _ w (record { trail = act (Acts.takes y r x (w .site) a e) stop; few = omega arith })))
-    (λ b. spurned 0 w))
+course-submit : {y : Priority} {r : Record} {x : List ℕ} {w : World} {d : Called} → Submission y r x w d → Course w d
+unfolding done sendingsIn sendingOf
+course-submit (declines m h) = declined m
+course-submit {y} {r} {x} {w} (admits l g a e) =
+    carried (carried-called _ w (record { trail = act (Acts.takes y r x (w .site) a e) stop; few = omega arith }))
 
 -- a fact of what a queue hands back: of every refusal, and of its oldest confirmed record
 pub handed-back : (P : Collected → Type 0) (q : Queue) (row : List ℕ) → ((n : ℕ) → P (Uncollected n))
@@ -376,10 +364,8 @@ course-collect y w =
     (λ h. carried (carried-called _ w (record { trail = act (Acts.hands y (w .site) h) stop; few = omega arith })))
 
 pub course : (c : Call) (w : World) → Course w (call c w)
-unfolding call Calls.submit Calls.collect Calls.reset Calls.frame Calls.sent Calls.slot
-course (submit y r x) w =
-    by (Course w) _ _ _ (λ e. declined 21)
-    (λ e. by (Course w) _ _ _ (λ e. declined 29) (λ e. course-submit y r x w (outcome _ _ r x _ _)))
+unfolding call Calls.collect Calls.reset Calls.frame Calls.sent Calls.slot
+course (submit y r x) w = course-submit (submission y r x w)
 course (frame clock room high low octets out) w =
     by (Course w) _ _ _
     (λ e. let u = short-updates out (length high) (length low) w (true-same _ _ e) in carried
