@@ -1,5 +1,5 @@
 -- The answering side tells of nothing but replies and indications, of one reply at most. Assumes nothing.
-use Prim.Native.Nat.{ℕ, _+_, _≤_}
+use Prim.Native.Nat.{ℕ, _≤_}
 use mathlib.Core.Bool.{Bool, true, false}
 use mathlib.Core.List.{List, [], _∷_}
 use mathlib.Core.Path.{_≡_, refl}
@@ -16,31 +16,31 @@ use Rattle.state.specs.declared.Asks.the-variants.{Sda, Srd, Sdn, Status
 use Rattle.state.specs.World.{Event, indicated}
 use Rattle.state.specs.Answering.{Answered, answered, shows, replies, statusEvents, sdnEvents, answerNew}
 use Rattle.state.specs.Answering.{answerCounted, answerAs, answerTo, answer}
-use Rattle.state.specs.Runs.{sendingOf, sendingsIn}
 use Rattle.state.proofs.Cases.{by}
+use Rattle.state.proofs.Weights.{weight, weightIn}
 
 -- replies and indications, nothing sent behind a reply
 pub data Answers (r : Responder) : List Event → Type 0 where
   none : Answers r []
-  replied : (o : List ℕ) (l : List Event) → sendingsIn l ≡ 0 → Answers r l → Answers r (replies r o ∷ l)
+  replied : (o : List ℕ) (l : List Event) → weightIn l ≡ 0 → Answers r l → Answers r (replies r o ∷ l)
   shown : (h : Head) (d : Part) (l : List Event) → Answers r l → Answers r (indicated h d ∷ l)
 
 pub record Answering (r : Responder) (a : Answered) : Type 0 where
   pub told : Answers r (a .events)
 
-pub few-answers : {r : Responder} {l : List Event} → Answers r l → sendingsIn l ≤ 1
-unfolding sendingsIn sendingOf replies
+pub few-answers : {r : Responder} {l : List Event} → Answers r l → weightIn l ≤ 1
+unfolding weightIn weight replies
 few-answers none = omega arith
 few-answers (replied o l e a) = omega (arith, e)
 few-answers (shown h d l a) = omega (arith, few-answers a)
 
-unsent-none : sendingsIn [] ≡ 0
-unfolding sendingsIn
+unsent-none : weightIn [] ≡ 0
+unfolding weightIn
 unsent-none = refl
 
-unsent-shows : (i : Bool) (h : Head) (d : Part) → sendingsIn (shows i h d) ≡ 0
-unfolding shows sendingsIn sendingOf
-unsent-shows i h d = by (λ (l : List Event). sendingsIn l ≡ 0) _ _ _ (λ e. refl) (λ e. refl)
+unsent-shows : (i : Bool) (h : Head) (d : Part) → weightIn (shows i h d) ≡ 0
+unfolding shows weightIn weight
+unsent-shows i h d = by (λ (l : List Event). weightIn l ≡ 0) _ _ _ (λ e. refl) (λ e. refl)
 
 answers-shows : (r : Responder) (i : Bool) (h : Head) (d : Part) → Answers r (shows i h d)
 unfolding shows

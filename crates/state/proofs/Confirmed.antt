@@ -1,7 +1,7 @@
 -- A confirmed record and its data stay as the confirmation left them until the record is collected, and that record
 -- is what collect hands back. Assumes nothing.
 use Prim.Native.Nat.{ℕ}
-use mathlib.Core.Bool.{true, false, true≢false}
+use mathlib.Core.Bool.{Bool, true, false, true≢false}
 use mathlib.Core.Path.{_≡_, refl, sym, ap, _∙_}
 use mathlib.Core.List.{List, [], _∷_, _++_, cons-ne-nil, head-eq-of-cons-eq, tail-eq-of-cons-eq}
 use Rattle.frame.specs.declared.Address.{Address}
@@ -17,7 +17,7 @@ use Rattle.state.specs.Runs.{Call, call, run, Begun}
 use Rattle.state.specs.Submitted.{Lies, confirms, collects, never}
 use Rattle.state.proofs.Cases.{Any}
 use Rattle.state.proofs.Acts.{Point, calm, Move, Act, Trail, stop, move, act}
-use Rattle.state.proofs.Walk.{Course, declined, carried, course}
+use Rattle.state.proofs.Walk.{Course, declined, carried, course, unfiled-beside}
 use Rattle.state.proofs.Keeping.{Ground, given-trail}
 use Rattle.state.proofs.Filed.{Filed}
 use Rattle.state.proofs.Poise.{Poised, poised-acted, poise}
@@ -29,7 +29,7 @@ use Rattle.state.proofs.Entries.{Fixed, fixed-now}
 use Rattle.state.proofs.Staying.{alike-itself, Asks, itself, asked-sent, asked-collected, stays}
 use Rattle.state.proofs.Spans.{never-first, never-one, never-behind, never-within}
 use Rattle.state.proofs.Lasting.{filed-at, lasts-trail, lasts-run, lasts-met}
-use Rattle.state.proofs.Solely.{files, unfiled-behind}
+use Rattle.state.proofs.Weights.{files}
 
 -- ---- a trail with one act among the others: the trail before it, the act, and the trail behind it
 record Parted (p : Point) (s : Site) (former : List Event) (e : Event) (latter : List Event) (r : Point) (v : Site) :
@@ -148,9 +148,9 @@ module _ (w : World) (b : Begun w) (before : List Call) (c : Call) (p : Priority
       (lasts-trail (b .settings) (b .ts) (orderly .small) p (stays p n (b .ts) _ _) (z .rest)
       (poised-acted (b .settings) (b .ts) (orderly .small) (z .deed) a) (m .fixed)
       (never-within files (collects p n) latter (unfiled-uncollected p n)
-      (unfiled-behind c (run before w .world) former latter (confirmed p n status k) e)))
+      (unfiled-beside c (run before w .world) former latter (confirmed p n status k) e .1)))
 
-  now-course : {d : Called} → Course (run before w .world) d
+  now-course : {b : Bool} {d : Called} → Course (run before w .world) b d
       → d .events ≡ former ++ (confirmed p n status k ∷ latter)
       → Now n status k (queueAt p (d .world .site)) (rowsAt p (d .world .site))
   unfolding refuse confirms

@@ -1,5 +1,6 @@
 -- What every move and every act keeps, every call and every run of calls keeps: the one induction. Assumes nothing.
 use Prim.Native.Nat.{ℕ}
+use mathlib.Core.Bool.{Bool}
 use mathlib.Core.Path.{_≡_, sym, ap, _∙_}
 use mathlib.Core.List.{List, [], _∷_, _++_}
 use Rattle.state.specs.World.{Site, World, What, Event, Called, accepted, begins, ends, sends, confirmed}
@@ -72,10 +73,10 @@ module _ {g : Ground} (a : Account g) where
       let k = a .acts m h z i in
       kept-more h _ _ (k .0) (kept-trail r _ (g .acted m z) (k .1))
 
-  pub kept-course : {w : World} {d : Called} → Course w d → (h : a .History) → g .Given calm (w .site)
+  pub kept-course : {b : Bool} {w : World} {d : Called} → Course w b d → (h : a .History) → g .Given calm (w .site)
       → a .At calm (w .site) h → Kept h (d .events) calm (d .world .site)
   unfolding refuse
-  kept-course {w} (declined n) h z i =
+  kept-course {w = w} (declined n) h z i =
       let k = a .refuses n (w .site) h i in
       kept-more h _ [] (k .0) (kept-none _ calm (w .site) (k .1))
   kept-course (carried c) h z i = kept-trail (c .trail) h z i
@@ -87,7 +88,7 @@ given-trail g stop z = z
 given-trail g (move m r) z = given-trail g r (g .moved m z)
 given-trail g (act m r) z = given-trail g r (g .acted m z)
 
-pub given-course : (g : Ground) {w : World} {d : Called} → Course w d → g .Given calm (w .site)
+pub given-course : (g : Ground) {b : Bool} {w : World} {d : Called} → Course w b d → g .Given calm (w .site)
     → g .Given calm (d .world .site)
 unfolding refuse
 given-course g (declined n) z = z

@@ -49,7 +49,8 @@ use Rattle.state.proofs.Effects.{queueAt, rowsAt}
 use Rattle.state.proofs.Lasting.{Lasts, filed-at, lasts-call, lasts-told}
 use Rattle.state.proofs.Staying.{alike-itself, Asks, itself, asked-sent, asked-collected, asks-refused}
 use Rattle.state.proofs.Staying.{asks-effect, Held, pending, held-of, held-carries, held-lasts}
-use Rattle.state.proofs.Solely.{files, filing, solely, unfiled-before}
+use Rattle.state.proofs.Weights.{files}
+use Rattle.state.proofs.Walk.{filing, solely, unfiled-beside}
 use Rattle.state.proofs.Writable.{reads}
 use Rattle.state.proofs.Submission.{Submission, declines, admits, submission}
 use Rattle.state.proofs.Entering.{open-new}
@@ -308,7 +309,7 @@ module _ (w : World) (b : Begun w) (before : List Call) (c : Call) (p : Priority
       (booked-run (b .settings) (b .ts) p before w (λ m. blank) o (booked-begun p (b .ts) w (λ m. blank) b)) earlier
       later e i
       (never-within files enrols earlier unfiled-unenrolled
-      (unfiled-before c (run before w .world) earlier later e i)) n
+      (unfiled-beside c (run before w .world) earlier later e i .0)) n
 
   -- where it tells that the request at place n of the queue p is sent, the octets carry what was last submitted and
   -- accepted there

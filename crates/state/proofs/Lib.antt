@@ -4,6 +4,8 @@ pub mod Phases
 pub mod Choices
 pub mod Acts
 pub mod Submission
+pub mod Spans
+pub mod Weights
 pub mod Answers
 pub mod Hearing
 pub mod Walk
@@ -37,12 +39,10 @@ pub mod Sendings
 pub mod Apart
 pub mod Beside
 pub mod Callers
-pub mod Spans
 pub mod Effects
 pub mod Lasting
 pub mod Entries
 pub mod Staying
-pub mod Solely
 pub mod Writable
 pub mod Entering
 pub mod Submitted

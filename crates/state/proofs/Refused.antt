@@ -125,14 +125,14 @@ calm-slot x clock s = calmly (goes-slot ⊥ x clock s (λ z. absurd z))
 pub record Told (d : Called) : Type 0 where
   pub told : refuses (d .events) ≡ false
 
-pub told-carried : {w : World} {d : Called} → Carried w d → Told d
+pub told-carried : {b : Bool} {w : World} {d : Called} → Carried b w d → Told d
 told-carried c = record { told = tame (c .trail) }
 
 pub told-resetting : (w : World) → Told (resetting w)
 told-resetting w = record { told = tame (trail-resetting ⊥ w (λ z. absurd z)) }
 
 -- ---- demand 1: "a refused call changes nothing"
-left-by : {w : World} {d : Called} → Course w d → refuses (d .events) ≡ true → d .world ≡ w
+left-by : {b : Bool} {w : World} {d : Called} → Course w b d → refuses (d .events) ≡ true → d .world ≡ w
 unfolding refuse
 left-by (declined n) h = refl
 left-by (carried c) h = absurd (true≢false (sym h ∙ told-carried c .told))
@@ -141,7 +141,7 @@ pub refused-leaves : (c : Call) (w : World) → refuses (call c w .events) ≡ t
 refused-leaves c w h = left-by (course c w) h
 
 -- and nothing is to be sent, so that the output is as it was
-unsent-by : {w : World} {d : Called} → Course w d → refuses (d .events) ≡ true → telling (d .events) .octets ≡ []
+unsent-by : {b : Bool} {w : World} {d : Called} → Course w b d → refuses (d .events) ≡ true → telling (d .events) .octets ≡ []
 unfolding refuse telling untold adds
 unsent-by (declined n) h = refl
 unsent-by (carried c) h = absurd (true≢false (sym h ∙ told-carried c .told))

@@ -8,7 +8,12 @@ use Rattle.state.specs.World.{World, What, Event, accepted, begins, ends
 use Rattle.state.specs.World.{resets, refused}
 use Rattle.state.specs.Told.{Telling, adds, telling}
 use Rattle.state.specs.Runs.{Call, call, sendingOf, sendingsIn}
-use Rattle.state.proofs.Walk.{sendings-append, one-sending}
+use Rattle.state.proofs.Walk.{one-sending}
+
+sendings-append : (a b : List Event) → sendingsIn (a ++ b) ≡ sendingsIn a + sendingsIn b
+unfolding sendingsIn
+sendings-append [] b = omega arith
+sendings-append (e ∷ a) b = omega (arith, sendings-append a b)
 
 -- an event that is no sending leaves the octets and the wait that are told
 record Spares (e : Event) (t : Telling) : Type 0 where

@@ -45,14 +45,17 @@ use Rattle.state.specs.Calls.{idleRead}
 use Rattle.state.specs.Calls.{awaitedRead, heard, sentIn, slotIn, dismissed, dismissal, broken, countOf}
 use Rattle.state.specs.Calls.{drained, forgotten, freshWorld, resetting}
 use Rattle.state.specs.Runs.{Call, call, sendingOf, sendingsIn}
+use Rattle.state.specs.Submitted.{never}
 use Rattle.state.specs.Runs.Call.{submit, frame, sent, slot, reset, collect}
 use Rattle.state.proofs.Cases.{by, Any, any, positive}
 use Rattle.state.proofs.Facts.{lawful-kept}
 use Rattle.state.proofs.Phases.{flight, broken-by}
-use Rattle.state.proofs.Acts.{Point, calm, free, choosing, passing, halting, clearing, Closing, Move, Trail}
+use Rattle.state.proofs.Acts.{Point, calm, free, choosing, passing, halting, clearing, Closing, Move, Act, Trail}
 use Rattle.state.proofs.Acts.{stop, move, act, filled}
 use Rattle.state.proofs.Acts as Acts
 use Rattle.state.proofs.Submission.{Submission, declines, admits, submission}
+use Rattle.state.proofs.Weights.{weight, weightIn, weights-append, files, Spare, light, solo, spare-sendings}
+use Rattle.state.proofs.Weights.{spare-unfiled, spare-beside}
 use Rattle.state.proofs.Answers.{Answers, none, replied, shown, Answering, answering-answer, few-answers}
 use Rattle.state.proofs.Hearing.{Memorable, Lawful, statusBy, Minds, minds-answer, read-token, read-source}
 use Rattle.state.proofs.Hearing.{lawful-judged, short-updates}
@@ -61,11 +64,11 @@ use Rattle.state.proofs.Places.{fewer}
 -- ---- the site
 pub record Goes (k : Type 0) (p : Point) (s : Site) (q : Point) (d : Done) : Type 0 where
   pub trail : Trail k p s (d .events) q (d .site)
-  pub few : sendingsIn (d .events) ≤ 1
+  pub few : weightIn (d .events) ≤ 1
 
 module _ (k : Type 0) where
   goes-still : (p : Point) (s : Site) → Goes k p s p (still s)
-  unfolding still sendingsIn
+  unfolding still weightIn
   goes-still p s = record { trail = stop; few = omega arith }
 
   goes-after : {p q r : Point} {s t : Site} {d : Done} → Move k p s q t → Goes k q t r d → Goes k p s r d
@@ -73,18 +76,18 @@ module _ (k : Type 0) where
 
   -- ---- the pass and the choice
   goes-pass : (s : Site) → Goes k passing s calm (pass s)
-  unfolding pass passEvents done sendingsIn sendingOf
+  unfolding pass passEvents done weightIn weight
   goes-pass s = record { trail = act (Acts.passes s) stop; few = omega arith }
 
   goes-recheck : (s : Site) → (k → s .core .doing .phase ≡ Check) → Goes k calm s calm (recheck s)
-  unfolding recheck passAgain done sendingsIn sendingOf
+  unfolding recheck passAgain done weightIn weight
   goes-recheck s e =
       by (Goes k calm s calm) _ _ _ (λ h. record { trail = act (Acts.repasses s e (true-less _ _ h)) stop; few = omega arith })
       (λ h. goes-after (Acts.drops s e (false-less _ _ h)) (goes-pass _))
 
   goes-chosen : (starts : Bool) (clock : ℕ) (x : Choice) (s : Site) → choice starts (s .core) clock ≡ x
       → Goes k (choosing starts) s calm (chosen x s)
-  unfolding chosen send sendEvents finish andThen done sendingsIn sendingOf
+  unfolding chosen send sendEvents finish andThen done weightIn weight
   goes-chosen starts clock (Serve y) s e = record { trail = act (Acts.serves starts clock y s e) stop; few = omega arith }
   goes-chosen starts clock PassOn s e = record { trail = act (Acts.stops starts clock s e) (goes-pass s .trail); few = omega (arith, goes-pass s .few) }
 
@@ -94,7 +97,7 @@ module _ (k : Type 0) where
 
   -- ---- a hold's start
   goes-begin : (clock : ℕ) (s : Site) → Goes k free s calm (begin clock s)
-  unfolding begin andThen done sendingsIn sendingOf
+  unfolding begin andThen done weightIn weight
   goes-begin clock s = let g = goes-choose true clock (withCore (beginning clock (s .core)) s) in
       record { trail = act (Acts.opens clock s) (g .trail); few = omega (arith, g .few) }
 
@@ -115,13 +118,13 @@ module _ (k : Type 0) where
   -- ---- a request's end
   goes-ended : (x : Phase) (o : Ending) (l : List ℕ) (clock : ℕ) (s : Site) → (k → s .core .doing .phase ≡ x)
       → (k → Closing x o l) → Goes k calm s calm (ended o l clock s)
-  unfolding ended close closeOf andThen done sendingsIn sendingOf
+  unfolding ended close closeOf andThen done weightIn weight
   goes-ended x o l clock s e c =
       let g = goes-choose false clock (close o l s .site) in
       record { trail = act (Acts.closes _ x o l s refl e c) (g .trail); few = omega (arith, g .few) }
 
   goes-givenUp : (s : Site) → (k → s .core .doing .phase ≡ Awaited) → Goes k calm s calm (givenUp s)
-  unfolding givenUp close closeOf over andThen done sendingsIn sendingOf
+  unfolding givenUp close closeOf over andThen done weightIn weight
   goes-givenUp s e =
       record {
         trail = act (Acts.closes _ Awaited _ [] s refl e (λ z. Acts.lost))
@@ -130,7 +133,7 @@ module _ (k : Type 0) where
       }
 
   goes-retry : (clock : ℕ) (s : Site) → (k → s .core .doing .phase ≡ Awaited) → Goes k calm s calm (retry clock s)
-  unfolding retry again againOf againEvents done sendingsIn sendingOf
+  unfolding retry again againOf againEvents done weightIn weight
   goes-retry clock s e =
       by (Goes k calm s calm) _ _ _ (λ h. goes-ended Awaited _ [] clock s e (λ z. Acts.lost))
       (λ h. record { trail = act (Acts.repeats _ s refl e (false-less _ _ h)) stop; few = omega arith })
@@ -173,30 +176,30 @@ trail-answers s none = stop
 trail-answers s (replied o l e a) = act (Acts.replies o s) (trail-answers s a)
 trail-answers s (shown h d l a) = act (Acts.shows any h d s) (trail-answers s a)
 
--- ---- a call that is carried out
-pub record Carried (w : World) (d : Called) : Type 0 where
+-- ---- a call that is carried out; b says whether it may file
+pub record Carried (b : Bool) (w : World) (d : Called) : Type 0 where
   pub trail : Trail Any calm (w .site) (d .events) calm (d .world .site)
-  pub few : sendingsIn (d .events) ≤ 1
+  pub few : Spare b (d .events)
   pub started : d .world .started ≡ w .started
   pub memory : Memorable (w .memory) → Memorable (d .world .memory)
 
-pub carried-nothing : (w : World) → Carried w (nothing w)
-unfolding nothing sendingsIn
-carried-nothing w = record { trail = stop; few = omega arith; started = refl; memory = λ m. m }
+pub carried-nothing : (w : World) → Carried false w (nothing w)
+unfolding nothing weightIn
+carried-nothing w = record { trail = stop; few = light {l = []} (omega arith); started = refl; memory = λ m. m }
 
-carried-called : (d : Done) (w : World) → Goes Any calm (w .site) calm d → Carried w (called d w)
+carried-called : (d : Done) (w : World) → Goes Any calm (w .site) calm d → Carried false w (called d w)
 unfolding called withSite
-carried-called d w g = record { trail = g .trail; few = g .few; started = refl; memory = λ m. m }
+carried-called d w g = record { trail = g .trail; few = light (g .few); started = refl; memory = λ m. m }
 
 carried-replying : (a : Answered) (w : World) → Answering (responder (w .site .core)) a
-    → (Memorable (w .memory) → Minds a) → Carried w (replying a w)
+    → (Memorable (w .memory) → Minds a) → Carried false w (replying a w)
 unfolding replying withMemory
 carried-replying a w t m =
-    record { trail = trail-answers (w .site) (t .told); few = few-answers (t .told); started = refl; memory = λ z. m z .memory }
+    record { trail = trail-answers (w .site) (t .told); few = light (few-answers (t .told)); started = refl; memory = λ z. m z .memory }
 
 -- after the pass's check is let go
 carried-rested : {d : Called} (w : World) → flight (w .site .core .doing .phase) ≡ false
-    → Carried (withSite (rest (w .site)) w) d → Carried w d
+    → Carried false (withSite (rest (w .site)) w) d → Carried false w d
 unfolding withSite
 carried-rested w f c =
     record {
@@ -209,7 +212,7 @@ carried-rested w f c =
 -- ---- frame
 module _ (clock : ℕ) (room : Bool) (high low octets : List ℕ) (u : length high ≤ UPDATE) (l : length low ≤ UPDATE) where
   carried-idle : (x : Fields) (d : Part) (w : World) → read octets ≡ Read x d
-      → flight (w .site .core .doing .phase) ≡ false → Carried w (idle clock room high low x d w)
+      → flight (w .site .core .doing .phase) ≡ false → Carried false w (idle clock room high low x d w)
   unfolding idle
   carried-idle (Token a b) d w e f =
       carried-called _ w (goes-token Any clock _ _ (w .site) (λ z. read-token octets a b d e) (λ z. f))
@@ -219,7 +222,7 @@ module _ (clock : ℕ) (room : Bool) (high low octets : List ℕ) (u : length hi
       (λ m. minds-answer _ _ _ room high low h d m (read-source octets h d e) u l)
 
   carried-read : (r : Reading) (w : World) → read octets ≡ r → flight (w .site .core .doing .phase) ≡ false
-      → Carried w (idleRead clock room high low r w)
+      → Carried false w (idleRead clock room high low r w)
   unfolding idleRead
   carried-read (Unread n) w e f = carried-nothing w
   carried-read (Read x d) w e f = carried-idle x d w e f
@@ -229,12 +232,12 @@ module _ (clock : ℕ) (room : Bool) (high low octets : List ℕ) (u : length hi
   rest-unflown s = refl
 
   carried-check : (w : World) → flight (w .site .core .doing .phase) ≡ false
-      → Carried w (idleRead clock room high low (read octets) (withSite (rest (w .site)) w))
+      → Carried false w (idleRead clock room high low (read octets) (withSite (rest (w .site)) w))
   unfolding withSite
   carried-check w f = carried-rested w f (carried-read _ _ refl (rest-unflown (w .site)))
 
   pub carried-heard : (x : Phase) (w : World) → w .site .core .doing .phase ≡ x
-      → Carried w (heard x clock room high low octets w)
+      → Carried false w (heard x clock room high low octets w)
   unfolding heard flight
   carried-heard Idle w e = carried-read _ w refl (ap flight e)
   carried-heard Awaited w e = carried-called _ w (goes-awaited Any clock octets _ (w .site) (λ z. refl) (λ z. e))
@@ -242,10 +245,10 @@ module _ (clock : ℕ) (room : Bool) (high low octets : List ℕ) (u : length hi
   carried-heard Check w e = carried-check w (ap flight e)
   carried-heard ToSelf w e = carried-nothing w
 
-pub carried-sent : (clock : ℕ) (w : World) → Carried w (called (sentIn (w .site .core .doing .phase) clock (w .site)) w)
+pub carried-sent : (clock : ℕ) (w : World) → Carried false w (called (sentIn (w .site .core .doing .phase) clock (w .site)) w)
 carried-sent clock w = carried-called _ w (goes-sent Any _ clock (w .site) (λ z. refl))
 
-pub carried-slot : (clock : ℕ) (w : World) → Carried w (called (slotIn (w .site .core .doing .phase) clock (w .site)) w)
+pub carried-slot : (clock : ℕ) (w : World) → Carried false w (called (slotIn (w .site .core .doing .phase) clock (w .site)) w)
 carried-slot clock w = carried-called _ w (goes-slot Any _ clock (w .site) (λ z. refl))
 
 -- ---- reset
@@ -295,59 +298,59 @@ reset-rest : (w : World) → (resetting w .world .started ≡ w .started) × Mem
 unfolding resetting freshWorld forgotten
 reset-rest w = (refl, record { source = omega arith; reply = omega arith })
 
--- a reset sends nothing
-pub sendings-append : (a b : List Event) → sendingsIn (a ++ b) ≡ sendingsIn a + sendingsIn b
-unfolding sendingsIn
-sendings-append [] b = omega arith
-sendings-append (e ∷ a) b = omega (arith, sendings-append a b)
-
-unsent-broken : (x : Phase) → sendingsIn (broken x) ≡ 0
-unfolding sendingsIn sendingOf
+-- a reset sends and files nothing
+unsent-broken : (x : Phase) → weightIn (broken x) ≡ 0
+unfolding weightIn weight
 unsent-broken x =
-    rw (broken-by x) (by (λ (l : List Event). sendingsIn l ≡ 0) _ _ _ (λ e. refl) (λ e. refl))
+    rw (broken-by x) (by (λ (l : List Event). weightIn l ≡ 0) _ _ _ (λ e. refl) (λ e. refl))
 
-unsent-dismissed : (y : Priority) (n count : ℕ) (q : Queue) → sendingsIn (dismissed y n count q) ≡ 0
-unfolding dismissed sendingsIn sendingOf
+unsent-dismissed : (y : Priority) (n count : ℕ) (q : Queue) → weightIn (dismissed y n count q) ≡ 0
+unfolding dismissed weightIn weight
 unsent-dismissed y zero count q = refl
 unsent-dismissed y (suc n) count q = omega (arith, unsent-dismissed y n 0 (Q.confirmed q))
 
-few-resetting : (w : World) → sendingsIn (resetting w .events) ≤ 1
-unfolding resetting dismissal sendingsIn sendingOf
+few-resetting : (w : World) → weightIn (resetting w .events) ≤ 1
+unfolding resetting dismissal weightIn weight
 few-resetting w =
     let c = w .site .core in
     omega (
       arith,
-      sendings-append (broken (c .doing .phase)) (dismissal High c ++ dismissal Low c),
-      sendings-append (dismissal High c) (dismissal Low c),
+      weights-append (broken (c .doing .phase)) (dismissal High c ++ dismissal Low c),
+      weights-append (dismissal High c) (dismissal Low c),
       unsent-broken (c .doing .phase),
       unsent-dismissed High (queueOf High c .unconfirmed) (countOf High c) (queueOf High c),
       unsent-dismissed Low (queueOf Low c .unconfirmed) (countOf Low c) (queueOf Low c),
     )
 
 pub carried-resetting : (w : World)
-    → lawless (w .site .core) (w .site .masters) (w .started) (w .memory .kept) ≡ false → Carried w (resetting w)
+    → lawless (w .site .core) (w .site .masters) (w .started) (w .memory .kept) ≡ false → Carried false w (resetting w)
 carried-resetting w e =
     record {
       trail = trail-resetting Any w (λ z. lawful-kept (w .site .core) (w .site .masters) (w .started) _ e);
-      few = few-resetting w;
+      few = light (few-resetting w);
       started = reset-rest w .0;
       memory = λ m. reset-rest w .1;
     }
 
--- ---- any call is refused whole, or carried out
-pub data Course (w : World) : Called → Type 0 where
-  declined : (n : ℕ) → Course w (refuse n w)
-  carried : {d : Called} → Carried w d → Course w d
+-- ---- any call is refused whole, or carried out; b says whether it may file
+pub data Course (w : World) : Bool → Called → Type 0 where
+  declined : {b : Bool} (n : ℕ) → Course w b (refuse n w)
+  carried : {b : Bool} {d : Called} → Carried b w d → Course w b d
 
-spurned : (n : ℕ) (w : World) → Course w (called (done (w .site) (refused n ∷ [])) w)
+spurned : (n : ℕ) (w : World) → Course w true (called (done (w .site) (refused n ∷ [])) w)
 unfolding called done withSite refuse
 spurned n w = declined n
 
-course-submit : {y : Priority} {r : Record} {x : List ℕ} {w : World} {d : Called} → Submission y r x w d → Course w d
-unfolding done sendingsIn sendingOf
+filed : {e : Event} {t : Site} (w : World) → Act Any calm (w .site) e calm t → sendingOf e ≡ 0
+    → Course w true (called (done t (e ∷ [])) w)
+unfolding called done withSite
+filed w a h = carried (record { trail = act a stop; few = solo _ h; started = refl; memory = λ m. m })
+
+course-submit : {y : Priority} {r : Record} {x : List ℕ} {w : World} {d : Called} → Submission y r x w d
+    → Course w true d
+unfolding sendingOf
 course-submit (declines m h) = declined m
-course-submit {y} {r} {x} {w} (admits l g a e) =
-    carried (carried-called _ w (record { trail = act (Acts.takes y r x (w .site) a e) stop; few = omega arith }))
+course-submit {y} {r} {x} {w} (admits l g a e) = filed w (Acts.takes y r x (w .site) a e) refl
 
 -- a fact of what a queue hands back: of every refusal, and of its oldest confirmed record
 pub handed-back : (P : Collected → Type 0) (q : Queue) (row : List ℕ) → ((n : ℕ) → P (Uncollected n))
@@ -357,35 +360,54 @@ handed-back P q row f g =
     by P _ _ _ (λ e. f 28) (λ e. by P _ _ _ (λ i. g (positive _ (false-same _ _ e))) (λ i. f 29))
 
 pub course-collect : (y : Priority) (w : World)
-    → Course w (called (collecting y (handed (queueOf y (w .site .core)) (rowsOf y (w .site) .row)) (w .site)) w)
-unfolding collecting done sendingsIn sendingOf
+    → Course w true (called (collecting y (handed (queueOf y (w .site .core)) (rowsOf y (w .site) .row)) (w .site)) w)
+unfolding collecting sendingOf
 course-collect y w =
-    handed-back (λ (c : Collected). Course w (called (collecting y c (w .site)) w)) _ _ (λ n. spurned n w)
-    (λ h. carried (carried-called _ w (record { trail = act (Acts.hands y (w .site) h) stop; few = omega arith })))
+    handed-back (λ (c : Collected). Course w true (called (collecting y c (w .site)) w)) _ _ (λ n. spurned n w)
+    (λ h. filed w (Acts.hands y (w .site) h) refl)
 
-pub course : (c : Call) (w : World) → Course w (call c w)
-unfolding call Calls.collect Calls.reset Calls.frame Calls.sent Calls.slot
+-- submit and collect
+unfoldable pub filing : Call → Bool
+filing (submit p r x) = true
+filing (frame clock room high low octets out) = false
+filing (sent clock out) = false
+filing (slot clock out) = false
+filing reset = false
+filing (collect p) = true
+
+pub course : (c : Call) (w : World) → Course w (filing c) (call c w)
+unfolding filing call Calls.collect Calls.reset Calls.frame Calls.sent Calls.slot
 course (submit y r x) w = course-submit (submission y r x w)
 course (frame clock room high low octets out) w =
-    by (Course w) _ _ _
+    by (Course w false) _ _ _
     (λ e. let u = short-updates out (length high) (length low) w (true-same _ _ e) in carried
     (carried-heard clock room high low octets (u .0) (u .1) _ w refl))
     (λ e. declined _)
-course (sent clock out) w = by (Course w) _ _ _ (λ e. carried (carried-sent clock w)) (λ e. declined _)
-course (slot clock out) w = by (Course w) _ _ _ (λ e. carried (carried-slot clock w)) (λ e. declined _)
+course (sent clock out) w = by (Course w false) _ _ _ (λ e. carried (carried-sent clock w)) (λ e. declined _)
+course (slot clock out) w = by (Course w false) _ _ _ (λ e. carried (carried-slot clock w)) (λ e. declined _)
 course reset w =
-    by (Course w) _ _ _ (λ e. declined 21)
-    (λ e. by (Course w) _ _ _ (λ e. declined 21)
-    (λ e. by (Course w) _ _ _ (λ e. declined 29) (λ e. carried (carried-resetting w (is-said e)))))
+    by (Course w false) _ _ _ (λ e. declined 21)
+    (λ e. by (Course w false) _ _ _ (λ e. declined 21)
+    (λ e. by (Course w false) _ _ _ (λ e. declined 29) (λ e. carried (carried-resetting w (is-said e)))))
 course (collect y) w =
-    by (Course w) _ _ _ (λ e. declined 21) (λ e. by (Course w) _ _ _ (λ e. declined 29) (λ e. course-collect y w))
+    by (Course w true) _ _ _ (λ e. declined 21)
+    (λ e. by (Course w true) _ _ _ (λ e. declined 29) (λ e. course-collect y w))
+
+spare-course : {b : Bool} {w : World} {d : Called} → Course w b d → Spare b (d .events)
+unfolding refuse weightIn weight
+spare-course (declined n) = light {l = refused n ∷ []} (omega arith)
+spare-course (carried c) = c .few
 
 -- ---- in every call, of any world, at most one sending is told: the sendings of a history are the octets that callers
 -- were told to send
-few-course : {w : World} {d : Called} → Course w d → sendingsIn (d .events) ≤ 1
-unfolding refuse sendingsIn sendingOf
-few-course (declined n) = omega arith
-few-course (carried c) = c .few
-
 pub one-sending : (c : Call) (w : World) → sendingsIn (call c w .events) ≤ 1
-one-sending c w = few-course (course c w)
+one-sending c w = spare-sendings (spare-course (course c w))
+
+-- none but submit and collect tells of an acceptance or of a record collected
+pub solely : (c : Call) (w : World) → filing c ≡ false → never files (call c w .events) ≡ true
+solely c w h = spare-unfiled (spare-course (course c w)) h
+
+-- and no call does so beside an event
+pub unfiled-beside : (c : Call) (w : World) (former latter : List Event) (e : Event)
+    → call c w .events ≡ former ++ (e ∷ latter) → (never files former ≡ true) × (never files latter ≡ true)
+unfiled-beside c w former latter e i = spare-beside (spare-course (course c w)) former latter e i
