@@ -21,9 +21,8 @@ use Rattle.station_queues.specs.Decided.{taking}
 abbrev pub firstOf : Priority → State → ℕ
 firstOf p s = queueOf p (s .core) .first
 
--- what is decided and left in the data area: with the record placed, all that the station's submit decides and
--- leaves; and
--- the place taken is in the row
+-- what is decided and left in the data area: with the record placed, all that the station's submit decides and leaves;
+-- and the place taken is in the row
 pub record Takes (s : State) (p : Priority) (r : Record) (x : List ℕ) (places : ℕ) (area : List ℕ) (t : Taken)
     (area′ : List ℕ) : Type 0 where
   pub all : (row : List ℕ) → length row ≡ SIZE * places
