@@ -1,33 +1,23 @@
--- The stores of a frame: two in a row, three and a piece behind them, and a whole frame: how it is laid, and how long
--- it is. Assumes nothing.
+-- The stores of a frame: two in a row, and a whole frame: how it is laid, and how long it is. Assumes nothing.
 use Prim.Native.Nat.{ℕ, zero, suc, _+_, _≤_}
 use mathlib.Core.Bool.{Bool, true, false}
 use mathlib.Core.Path.{_≡_, refl, sym, ap, _∙_}
 use mathlib.Core.List.{List, [], _∷_, _++_}
 use native.Mathlib.Omega.{arith}
-use native.Mathlib.Numerals.{add-one, add-two}
-use lib.ListN.{length, take, drop, set, length-append}
+use native.Mathlib.Numerals.{add-one}
+use lib.ListN.{length, set, length-append}
 use Rattle.choice.specs.Choice.{pick, same}
 use Rattle.choice.proofs.Rules.{same-false}
-use Rattle.frame.specs.Format.{SD1, SD2, sd1, sd2, closing, framed}
+use Rattle.frame.specs.Format.{SD1, SD2, ED, sd1, sd2, closing, framed}
 use Rattle.laid.specs.Laid.{laid, Lays}
-use Rattle.laid.proofs.Laws.{laid-sets, laid-laid, laid-behind, length-laid}
-use Rattle.laid.proofs.Octets.{laid-part}
+use Rattle.laid.proofs.Laws.{laid-sets, laid-behind, length-laid}
+use Rattle.write.specs.declared.Tally.{Tally}
+use Rattle.write.specs.Adding.{Adds}
+use Rattle.write.proofs.Adding.{adds-closed}
 
--- two stores, and a piece behind three
+-- two stores in a row
 pub laid-two : (l : List ℕ) (i a b : ℕ) → i + 2 ≤ length l → set (set l i a) (i + 1) b ≡ laid l i (a ∷ (b ∷ []))
 laid-two l i a b h = rw (add-one i) (laid-sets l i (a ∷ (b ∷ [])) h)
-
-pub laid-three : (l : List ℕ) (i a b d : ℕ) (w : List ℕ) → i + 3 ≤ length l
-    → laid (set (set (set l i a) (i + 1) b) (i + 2) d) (i + 3) w ≡ laid l i (a ∷ (b ∷ (d ∷ w)))
-laid-three l i a b d w h =
-    let u : List ℕ = a ∷ (b ∷ (d ∷ [])) in
-    laid-behind l _ i (i + 3) u w h refl (rw (add-one i, add-two i) (laid-sets l i u h))
-
--- a body that was laid is read again, and closed by what was read
-laid-closed : (l : List ℕ) (i n : ℕ) (b : List ℕ) → i + n ≤ length l → length b ≡ n
-    → laid (laid l i b) (i + n) (closing (take n (drop i (laid l i b)))) ≡ laid l i (b ++ closing b)
-laid-closed l i n b h e = rw (← e, laid-part l i b (omega arith)) (laid-laid l i b (closing b) (omega arith))
 
 -- ---- a frame: the start octets of a body of n octets, then the body, then its closing
 abbrev pub start : ℕ → List ℕ
@@ -42,16 +32,15 @@ framed-start : (b : List ℕ) → framed b ≡ start (length b) ++ (b ++ closing
 unfolding framed sd1 sd2
 framed-start b = pick-append (same (length b) 3) _ _ (b ++ closing b)
 
-pub laid-frame : {l m k : List ℕ} {at : ℕ} (b : List ℕ) (n : ℕ) → at + n ≤ length l → length b ≡ n
-    → Lays l 0 (start n) 4 at m
-    → k ≡ laid m at b → laid k (at + n) (closing (take n (drop at k))) ≡ laid l 0 (framed b)
-laid-frame {l} {m} {k} {at} b n h e s f =
+pub laid-frame : {l m k : List ℕ} {at : ℕ} {r : Tally} (b : List ℕ) (n : ℕ) → at + n ≤ length l → length b ≡ n
+    → Lays l 0 (start n) 4 at m → Adds m (record { at = at; sum = 0 }) b r k
+    → laid k (r .at) (r .sum ∷ (ED ∷ [])) ≡ laid l 0 (framed b)
+laid-frame {l} {m} {k} {at} {r} b n h e s x =
     let fits : 0 + length (start n) ≤ length l = omega (arith, s .place) in
     let kept : length m ≡ length l = ap length (s .left) ∙ length-laid l 0 (start n) fits in
-    rw f
-    (laid-closed m at n b (omega arith) e
+    adds-closed (omega arith) x
     ∙ laid-behind l m 0 at (start n) (b ++ closing b) fits (s .place) (s .left)
-    ∙ ap (laid l 0) (rw (← e) (sym (framed-start b))))
+    ∙ ap (laid l 0) (rw (← e) (sym (framed-start b)))
 
 -- how long it is, of n octets behind the first three of its body
 pub length-framed : (b : List ℕ) (n : ℕ) → length b ≡ n + 3 → length (framed b) ≡ length (start (n + 3)) + (n + 5)

@@ -1,3 +1,4 @@
+pub mod Adding
 pub mod Frame
 pub mod Answers
 pub mod Laying

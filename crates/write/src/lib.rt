@@ -1,16 +1,18 @@
 // The frame writer: a frame's fields and data as octets at the start of a lent output, or the first refusal of
-// 8..13 and the output as it was. The definitions are the frame crate's. Assumes nothing.
+// 8..13 and the output as it was. The octets are added up as they are laid: the output is never read. The definitions
+// are the frame crate's. Assumes nothing.
 ghost use mathlib.Core.Path.{_≡_};
-ghost use Prim.Native.Nat.{_+_, _≤_};
+ghost use Prim.Native.Nat.{_+_, _≤_, _<_};
 ghost use mathlib.Core.Bool.{true, false};
 ghost use mathlib.Core.List.{[], _∷_};
-ghost use lib.ListN.{length, take, drop};
+ghost use lib.ListN.{length};
 ghost use Rattle.choice.specs.Choice.{pick, less, same};
 ghost use Rattle.control.specs.Control.{fc};
-ghost use Rattle.frame.specs.Format.{unit, body, closing, unwritableFrame, written, left};
+ghost use Rattle.frame.specs.Format.{unit, body, unwritableFrame, written, left};
 ghost use Rattle.frame.specs.Format.{extension as Format·extension, addressed as Format·addressed};
-ghost use Rattle.frame.specs.Format.{outside as Format·outside, SD1 as Format·SD1, SD2 as Format·SD2};
+ghost use Rattle.frame.specs.Format.{outside as Format·outside, SD1 as Format·SD1, SD2 as Format·SD2, ED as Format·ED};
 ghost use Rattle.laid.specs.Laid.{laid, Lays};
+ghost use Rattle.write.specs.Adding.{Adds};
 use frame::Access;
 use frame::Address;
 use frame::Fields;
@@ -111,60 +113,91 @@ fn addressed(n: u8, a: Access) -> u8
     }
 }
 
-// Lays an access point's extension octet, if it has one, and gives the place behind it.
-fn lay_extension(a: Access, out: &mut [u8], at: usize) -> usize
-    requires { ⌜ at + length (Format·extension a) ≤ length (now out) ⌝ }
-    ensures { λ r. ⌜ Lays (now (out .entry)) at (Format·extension a) (length (Format·extension a)) r
-        (now (out .exit)) ⌝ }
+// How far a body is laid: the place behind its last octet, and the sum of its octets modulo 256.
+struct Tally {
+    at: usize,
+    sum: u8,
+}
+
+// Lays one octet behind those laid, and adds it up.
+fn lay_octet(x: u8, out: &mut [u8], t: Tally) -> Tally
+    requires { ⌜ t .at < length (now out) ⌝ }
+    ensures { λ r. ⌜ Adds (now (out .entry)) t (x ∷ []) r (now (out .exit)) ⌝ }
 {
-    match a {
-        Access::None => at,
-        Access::At(p) => {
-            out[at] = p.0;
-            at + 1
-        }
+    let at = t.at;
+    out[at] = x;
+    Tally {
+        at: at + 1,
+        sum: std::num::wrapping_add_u8(t.sum, x),
     }
 }
 
+// Lays an access point's extension octet, if it has one.
+fn lay_extension(a: Access, out: &mut [u8], t: Tally) -> Tally
+    requires { ⌜ t .at + length (Format·extension a) ≤ length (now out) ⌝ }
+    ensures { λ r. ⌜ Adds (now (out .entry)) t (Format·extension a) r (now (out .exit)) ⌝ }
+{
+    match a {
+        Access::None => t,
+        Access::At(p) => lay_octet(p.0, out, t),
+    }
+}
+
+// Lays the data: one loop copies them and adds them up. It runs over numbers alone, so that it compiles to vector code.
+fn lay_data(data: &[u8], out: &mut [u8], t: Tally) -> Tally
+    requires { ⌜ t .at + length (now «data») ≤ length (now out) ⌝ }
+    ensures { λ r. ⌜ Adds (now (out .entry)) t (now («data» .entry)) r (now (out .exit)) ⌝ }
+{
+    let at = t.at;
+    let mut sum = t.sum;
+    let mut i = 0;
+    while i < data.len() {
+        let x = data[i];
+        out[at + i] = x;
+        sum = std::num::wrapping_add_u8(sum, x);
+        i += 1;
+    }
+    Tally { at: at + i, sum }
+}
+
 // Lays the unit: the extension octets, then the data.
-fn lay_unit(h: Head, data: &[u8], out: &mut [u8], at: usize)
-    requires { ⌜ at + length (unit h (now «data»)) ≤ length (now out) ⌝ }
-    ensures { λ _. ⌜ now (out .exit) ≡ laid (now (out .entry)) at (unit h (now («data» .entry))) ⌝ }
+fn lay_unit(h: Head, data: &[u8], out: &mut [u8], t: Tally) -> Tally
+    requires { ⌜ t .at + length (unit h (now «data»)) ≤ length (now out) ⌝ }
+    ensures { λ r. ⌜ Adds (now (out .entry)) t (unit h (now («data» .entry))) r (now (out .exit)) ⌝ }
 {
     let to = h.to;
     let from = h.from;
-    let second = lay_extension(to, out, at);
+    let second = lay_extension(to, out, t);
     let third = lay_extension(from, out, second);
-    laid::lay(data, out, third);
+    lay_data(data, out, third)
 }
 
-// Lays DA SA FC unit.
-fn lay_body(h: Head, control: u8, data: &[u8], out: &mut [u8], at: usize)
+// Lays DA SA FC unit from a place on.
+fn lay_body(h: Head, control: u8, data: &[u8], out: &mut [u8], at: usize) -> Tally
     requires { ⌜ control ≡ fc (h .control) ⌝ }
     requires { ⌜ (h .destination .0 ≤ 127) × (h .source .0 ≤ 126) ⌝ }
     requires { ⌜ at + length (body h (now «data»)) ≤ length (now out) ⌝ }
-    ensures { λ _. ⌜ now (out .exit) ≡ laid (now (out .entry)) at (body h (now («data» .entry))) ⌝ }
+    ensures { λ r. ⌜ Adds (now (out .entry)) (record { at = at; sum = 0 }) (body h (now («data» .entry))) r
+        (now (out .exit)) ⌝ }
 {
     let destination = h.destination.0;
     let to = h.to;
     let source = h.source.0;
     let from = h.from;
-    out[at] = addressed(destination, to);
-    out[at + 1] = addressed(source, from);
-    out[at + 2] = control;
-    lay_unit(h, data, out, at + 3);
+    let first = lay_octet(addressed(destination, to), out, Tally { at, sum: 0 });
+    let second = lay_octet(addressed(source, from), out, first);
+    let third = lay_octet(control, out, second);
+    lay_unit(h, data, out, third)
 }
 
-// Lays FCS 16 behind the n octets of a body.
-fn close(out: &mut [u8], at: usize, n: usize)
-    requires { ⌜ at + n + 2 ≤ length (now out) ⌝ }
-    ensures { λ _. ⌜ now (out .exit)
-        ≡ laid (now (out .entry)) (at + n) (closing (take n (drop at (now (out .entry))))) ⌝ }
+// Lays FCS 16 behind a body.
+fn close(out: &mut [u8], t: Tally)
+    requires { ⌜ t .at + 2 ≤ length (now out) ⌝ }
+    ensures { λ _. ⌜ now (out .exit) ≡ laid (now (out .entry)) (t .at) (t .sum ∷ (Format·ED ∷ [])) ⌝ }
 {
-    let end = at + n;
-    let sum = frame::fcs(&out[at..end]);
-    out[end] = sum;
-    out[end + 1] = ED;
+    let at = t.at;
+    out[at] = t.sum;
+    out[at + 1] = ED;
 }
 
 // Lays the start octets of a frame whose body has n octets, and gives the place behind them.
@@ -212,8 +245,8 @@ pub fn write_frame(h: Head, data: &[u8], out: &mut [u8]) -> Written
         return Written::Refused(13);
     }
     let at = lay_start(out, (n + 3) as u8);
-    lay_body(h, control, data, out, at);
-    close(out, at, n + 3);
+    let t = lay_body(h, control, data, out, at);
+    close(out, t);
     Written::Count(count)
 }
 

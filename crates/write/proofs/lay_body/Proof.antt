@@ -1,11 +1,11 @@
--- `write::lay_body` meets its contract: three stores, and the unit laid behind them.
+-- `write::lay_body` meets its contract: three octets and the unit, each laid behind the last and added up.
 -- Assumes nothing.
 use Prim.Native.Nat.{_+_, _≤_}
-use lib.ListN.{length, length-set}
+use lib.ListN.{length}
 use native.Mathlib.Omega.{arith}
 use Rattle.frame.specs.Format.{unit, body}
-use Rattle.write.proofs.Frame.{laid-three}
 use Rattle.frame.proofs.Lengths.{length-body}
+use Rattle.write.proofs.Adding.{adds-then}
 use borrow.Author.Needs.{needs}
 use Rattle.write.proofs.lay_body.Statement.{statement}
 use Rattle.write.proofs.lay_body.Tie as tie
@@ -15,50 +15,62 @@ room : (s : tie.Start)
     → s .args .at + 3 + length (unit (s .args .h) (s .args .«data» .now)) ≤ length (s .args .out .now)
 room s = omega (arith, length-body (s .args .h) (s .args .«data» .now))
 
-slice-write-out : tie.Need-slice-write-out
-slice-write-out c =
+lay-octet-requires : tie.Need-lay-octet-requires
+lay-octet-requires c κs =
     let start : tie.Start = search depth 0 in
     omega (arith, room start)
 
-slice-write-out-2 : tie.Need-slice-write-out-2
-slice-write-out-2 c =
+lay-octet-requires-2 : tie.Need-lay-octet-requires-2
+lay-octet-requires-2 c κs =
+    let p : tie.After-lay-octet = search depth 0 in
     let start : tie.Start = search depth 0 in
-    simp length-set (omega (arith, room start))
+    omega (arith, room start, p .lay-octet .ensures .lays .place)
 
-slice-write-out-3 : tie.Need-slice-write-out-3
-slice-write-out-3 c =
+lay-octet-requires-3 : tie.Need-lay-octet-requires-3
+lay-octet-requires-3 c κs =
+    let q : tie.After-lay-octet2 = search depth 0 in
+    let p : tie.After-lay-octet = search depth 0 in
     let start : tie.Start = search depth 0 in
-    simp length-set (omega (arith, room start))
+    omega (arith, room start, p .lay-octet .ensures .lays .place, q .lay-octet2 .ensures .lays .place)
 
 lay-unit-requires : tie.Need-lay-unit-requires
 lay-unit-requires c κs =
+    let r : tie.After-lay-octet3 = search depth 0 in
+    let q : tie.After-lay-octet2 = search depth 0 in
+    let p : tie.After-lay-octet = search depth 0 in
     let start : tie.Start = search depth 0 in
-    simp length-set (omega (arith, room start))
-
-same-length : tie.Need-same-length
-same-length c =
-    let after-lay-unit : tie.After-lay-unit = search depth 0 in
-    simp length-set at (after-lay-unit .lay-unit .kept .1 .1 .0)
+    let first = p .lay-octet .ensures in
+    let second = q .lay-octet2 .ensures in
+    omega (arith, room start, first .lays .place, second .lays .place, r .lay-octet3 .ensures .lays .place)
 
 returns : tie.Need-returns
 unfolding body
 returns c =
-    let after-addressed : tie.After-addressed = search depth 0 in
-    let s : tie.Start = search depth 0 in
-    cc (laid-three (s .args .out .now) (s .args .at) _ _ _ _ (omega (arith, room s)))
+    let u : tie.After-lay-unit = search depth 0 in
+    let r : tie.After-lay-octet3 = search depth 0 in
+    let q : tie.After-lay-octet2 = search depth 0 in
+    let sa : tie.After-addressed2 = search depth 0 in
+    let p : tie.After-lay-octet = search depth 0 in
+    let da : tie.After-addressed = search depth 0 in
+    let start : tie.Start = search depth 0 in
+    let n = room start in
+    let first = p .lay-octet .ensures in
+    let second = q .lay-octet2 .ensures in
+    let third = r .lay-octet3 .ensures in
+    rw (← da .addressed .ensures, ← sa .addressed2 .ensures, ← start .pre .0)
+    (adds-then (omega arith) first
+    (adds-then (omega (arith, first .lays .place)) second
+    (adds-then (omega (arith, first .lays .place, second .lays .place)) third (u .lay-unit .ensures))))
 
 pub lay-body-spec : {M : Type 1} → statement M
 lay-body-spec =
     tie.close
     (tie.spec
     (λ c κs. search needs)
-    slice-write-out
+    lay-octet-requires
     (λ c κs. search needs)
-    (λ c. search needs)
-    slice-write-out-2
-    (λ c. search needs)
-    slice-write-out-3
-    (λ c. search needs)
+    lay-octet-requires-2
+    lay-octet-requires-3
     lay-unit-requires
-    same-length
+    (λ c. search needs)
     returns)

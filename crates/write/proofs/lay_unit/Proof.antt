@@ -1,11 +1,11 @@
--- `write::lay_unit` meets its contract: three pieces, each laid behind the last.
+-- `write::lay_unit` meets its contract: three pieces, each laid behind the last and added up.
 -- Assumes nothing.
 use Prim.Native.Nat.{_+_, _≤_}
-use lib.ListN.{length}
+use lib.ListN.{length, length-append}
 use native.Mathlib.Omega.{arith}
 use Rattle.frame.specs.Format.{extension, unit}
-use Rattle.laid.proofs.Laws.{lays-then}
 use Rattle.frame.proofs.Lengths.{length-unit}
+use Rattle.write.proofs.Adding.{adds-then}
 use borrow.Author.Needs.{needs}
 use Rattle.write.proofs.lay_unit.Statement.{statement}
 use Rattle.write.proofs.lay_unit.Tie as tie
@@ -13,7 +13,7 @@ use Rattle.write.proofs.lay_unit.Tie as tie
 -- the three pieces fit
 room : (s : tie.Start)
     → let a = s .args in
-    a .at + (length (extension (a .h .to)) + (length (extension (a .h .from)) + length (a .«data» .now))) ≤ length
+    a .t .at + (length (extension (a .h .to)) + (length (extension (a .h .from)) + length (a .«data» .now))) ≤ length
     (a .out .now)
 room s = omega (arith, length-unit (s .args .h) (s .args .«data» .now))
 
@@ -26,28 +26,28 @@ lay-extension-requires-2 : tie.Need-lay-extension-requires-2
 lay-extension-requires-2 c κs =
     let p : tie.After-lay-extension = search depth 0 in
     let start : tie.Start = search depth 0 in
-    omega (arith, room start, p .lay-extension .ensures .place)
+    omega (arith, room start, p .lay-extension .ensures .lays .place)
 
-lay-requires : tie.Need-lay-requires
-lay-requires c κs =
+lay-data-requires : tie.Need-lay-data-requires
+lay-data-requires c κs =
     let q : tie.After-lay-extension2 = search depth 0 in
     let p : tie.After-lay-extension = search depth 0 in
     let start : tie.Start = search depth 0 in
-    omega (arith, room start, p .lay-extension .ensures .place, q .lay-extension2 .ensures .place)
+    omega (arith, room start, p .lay-extension .ensures .lays .place, q .lay-extension2 .ensures .lays .place)
 
 returns : tie.Need-returns
 unfolding unit
 returns c =
-    let after-lay : tie.After-lay = search depth 0 in
+    let r : tie.After-lay-data = search depth 0 in
     let q : tie.After-lay-extension2 = search depth 0 in
     let p : tie.After-lay-extension = search depth 0 in
     let start : tie.Start = search depth 0 in
-    let r = room start in
+    let n = room start in
     let first = p .lay-extension .ensures in
     let second = q .lay-extension2 .ensures in
-    lays-then (omega arith) first (lays-then (omega (arith, first .place)) second (after-lay .lay .ensures)) .left
+    adds-then (simp length-append (omega arith)) first (adds-then (omega (arith, first .lays .place)) second (r .lay-data .ensures))
 
 pub lay-unit-spec : {M : Type 1} → statement M
 lay-unit-spec =
     tie.close
-    (tie.spec lay-extension-requires lay-extension-requires-2 lay-requires (λ c. search needs) returns)
+    (tie.spec lay-extension-requires lay-extension-requires-2 lay-data-requires (λ c. search needs) returns)

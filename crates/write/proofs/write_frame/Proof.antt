@@ -84,10 +84,11 @@ lay-body-requires c κs =
 
 close-requires : tie.Need-close-requires
 close-requires c κs =
+    let b : tie.After-lay-body = search depth 0 in
     let q : tie.After-lay-start = search depth 0 in
     let p : tie.After-octets = search depth 0 in
-    let after-refusal : tie.After-refusal = search depth 0 in
-    omega (arith, count p, long after-refusal, q .lay-start .ensures .place)
+    let r : tie.After-refusal = search depth 0 in
+    omega (arith, count p, long r, q .lay-start .ensures .place, b .lay-body .ensures .lays .place)
 
 returns-3 : tie.Need-returns-3
 returns-3 c =
@@ -112,14 +113,10 @@ write-frame-spec =
     returns
     (λ c κs. fields c .units)
     returns-2
-    (λ c. omega (arith, fields (c .before .before .before) .units))
-    (λ c. omega (arith, fields (c .before .before .before) .units))
-    (λ c κs. omega (arith, count (c .before .before)))
+    (λ c. let else1 : tie.Else1 = search depth 0 in omega (arith, fields else1 .units))
+    (λ c. let else1 : tie.Else1 = search depth 0 in omega (arith, fields else1 .units))
+    (λ c κs. let after-octets : tie.After-octets = search depth 0 in omega (arith, count after-octets))
     lay-body-requires
-    (λ c. omega (
-      arith,
-      fields (c .before .before .before .before .before .before .before .before .before .before .before) .units,
-    ))
     close-requires
     (λ c. search needs)
     returns-3)
