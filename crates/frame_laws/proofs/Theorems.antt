@@ -1,11 +1,13 @@
 -- Document 01, "Frames", as theorems about the definitions that reader and writer are held to. Assumes nothing.
 use Prim.Native.Nat.{ℕ, _<_}
-use mathlib.Core.List.{List}
+use mathlib.Core.Bool.{Bool, true, false}
+use mathlib.Core.List.{List, _++_}
 use mathlib.Core.Logic.{_⊎_, inl, inr}
 use mathlib.Core.Path.{_≡_, refl, sym, _∙_}
 use native.Mathlib.Decide.{ℕ-discrete}
 use native.Mathlib.Omega.{arith}
-use lib.ListN.{length}
+use lib.ListN.{length, drop}
+use Rattle.choice.specs.Choice.{pick, same}
 use Rattle.choice.proofs.Rules.{passed, false-less}
 use Rattle.frame.specs.declared.Part.{Part}
 use Rattle.frame.specs.declared.Fields.{Fields}
@@ -13,7 +15,8 @@ use Rattle.frame.specs.declared.Fields.the-variants.{Token, Short, Frame}
 use Rattle.frame.specs.declared.Answer.{Answer}
 use Rattle.frame.specs.declared.Answer.the-variants.{Read}
 use Rattle.frame.specs.declared.Written.{Written}
-use Rattle.frame.specs.Format.{octets, unit, body, sd2, unwritable, unwritableToken, written, left, SD2, SD3}
+use Rattle.frame.specs.declared.Written.the-variants.{Refused, Count}
+use Rattle.frame.specs.Format.{octets, unit, body, sd2, unwritable, unwritableToken, refused, written, left, SD2, SD3}
 use Rattle.frame.specs.Reading.{read, plain, refusal, shown, octet}
 use Rattle.frame_laws.specs.Terms.{Octets, carried, flip, Summed, Twins}
 use Rattle.frame_laws.specs.Table.{table}
@@ -81,6 +84,18 @@ read-once s t f p q os ot es et e = by (ℕ-discrete (octet s 0) SD3) (ℕ-discr
         let a = accepted-SD3 (accepted t f q et) ot n in
         inr (inr (record { body = bodyOf f (shown t q); third = a .0; second = cc (written-read s f p os es m, a .1) }))
     by (no m) (no n) = inl (cc (written-read s f p os es m, written-read t f q ot et n))
+
+-- demand 1, of the writer: "a refused call changes nothing: ... not an octet we lent"
+pub refused-leaves : (f : Fields) (x out : List ℕ) {n : ℕ} → written f x out ≡ Refused n → left f x out ≡ out
+unfolding written left pick
+refused-leaves f x out {n} e = by (same (refused f x out) 0) (octets f x) (refused f x out) e
+  where
+    by : (b : Bool) (u : List ℕ) (m : ℕ) → pick b (Count (length u)) (Refused m) ≡ Refused n
+        → pick b (u ++ drop (length u) out) out ≡ out
+    by true u m e =
+        let z : _≡_ {A = ℕ} 0 1 = cc in
+        absurd (omega arith)
+    by false u m e = refl
 
 -- (e) one result: any two answers that meet the reader's promise are equal; and any two that meet a writer's, with what
 -- they leave in the output
