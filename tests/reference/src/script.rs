@@ -40,6 +40,7 @@ pub fn frames(seed: u64, count: usize) -> Vec<String> {
     calls.extend((0..count / 2).map(|_| seeded_write(&mut random)));
     calls.extend((0..count / 10).map(|_| seeded_token(&mut random)));
     calls.extend((0..20).map(|room| format!("short {room}")));
+    write_every_length(&mut random, &mut calls);
     calls
 }
 
@@ -138,6 +139,28 @@ fn write_every_field_value(calls: &mut Vec<String>) {
         calls.push(Write { to: point, ..Write::plain() }.call());
         calls.push(Write { from: point, ..Write::plain() }.call());
         calls.push(Write { to: point, from: Some(62), ..Write::plain() }.call());
+    }
+}
+
+/// Every data count with and without each access point, into an output one octet too short, exact, and one longer; then a
+/// short, a middling and the longest frame into every output.
+fn write_every_length(random: &mut Random, calls: &mut Vec<String>) {
+    for (to, from) in [(None, None), (Some(60), None), (None, Some(62)), (Some(60), Some(62))] {
+        for count in 0..=LONGEST_UNIT {
+            let mut write = Write { to, from, data: random.octets(count), ..Write::plain() };
+            let exact = write.frame_count();
+            for room in exact - 1..=exact + 1 {
+                write.room = room;
+                calls.push(write.call());
+            }
+        }
+    }
+    for count in [0, 9, LONGEST_UNIT] {
+        let mut write = Write { data: random.octets(count), ..Write::plain() };
+        for room in 0..=255 {
+            write.room = room;
+            calls.push(write.call());
+        }
     }
 }
 
