@@ -14,6 +14,7 @@ enum { LIFT_STATION = 7, LIFTS = 2, FIRST_LIFT = 60, OWN_POINT = 62, EVERYBODY =
 enum { FCB = 0x20, FCV = 0x10, CODE = 0x4F, SDN_HIGH = 0x46, SRD_LOW = 0x4C, SRD_HIGH = 0x4D, REPLY_DL = 0x08 };
 enum { LOST_REPLY = 3, LATE_REPLY = 5 }; /* of station 7's replies, from 1: the lost one, and the one it arrives for */
 
+/* The standard settings but for one retry, which they do not have: the reply that is lost here is asked for again. */
 static const struct cihlomet_settings settings = {
     .tset = 20, .tqui = 0, .min_tsdr = 20, .max_tsdr = 400, .ttd = 1, .ttr = 10000, .retries = 1};
 

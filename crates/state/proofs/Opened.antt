@@ -84,5 +84,5 @@ calls = true
 -- and the tables of the cases that call it
 unfoldable pub stations : Bool
 unfolding calls Twelve.calls Twelve.expected Twelve.inRow Twelve.told Twelve.ring Twelve.station Twelve.eleven
-    Twelve.twelve Twelve.handed Twelve.replied Twelve.acknowledged
+    Twelve.retrying Twelve.twelve Twelve.handed Twelve.replied Twelve.acknowledged
 stations = true

@@ -3,7 +3,9 @@ use Prim.Native.Nat.{ℕ}
 use mathlib.Core.List.{List, [], _∷_, _++_}
 use mathlib.Core.Path.{refl}
 use lib.ListN.{replicate}
-use Rattle.state.specs.Twelve.{Twelve, Seven, Does, station, eleven, twelve, handed, replied, acknowledged}
+use Rattle.times.specs.Times.{standard}
+use Rattle.state.specs.Twelve.{Twelve, Seven, Does, station, retrying, eleven, twelve, handed, replied}
+use Rattle.state.specs.Twelve.{acknowledged}
 use Rattle.state.proofs.Opened.{frames, times, stations}
 use Rattle.state.proofs.Lengths.{longest, mismeasured-refused}
 
@@ -17,21 +19,21 @@ case7 =
       above = λ s. mismeasured-refused 250 s refl;
     }
 
-pub case3Replied : (points : List ℕ) (clock : ℕ) → Does (replied clock) (station 5 (2 ∷ (5 ∷ [])) points)
+pub case3Replied : (points : List ℕ) (clock : ℕ) → Does (replied clock) (station standard 5 (2 ∷ (5 ∷ [])) points)
 unfolding stations
 case3Replied points clock = record { each = refl; whole = refl }
 
-pub case4Answered : (clock : ℕ) → Does (acknowledged clock) (station 3 (2 ∷ (3 ∷ [])) (replicate 64 1))
+pub case4Answered : (clock : ℕ) → Does (acknowledged clock) (station standard 3 (2 ∷ (3 ∷ [])) (replicate 64 1))
 unfolding stations
 case4Answered clock = record { each = refl; whole = refl }
 
 pub case11 : (points : List ℕ) (first second : ℕ)
-    → Does (eleven first second) (station 2 (2 ∷ (5 ∷ [])) points)
+    → Does (eleven first second) (station (retrying 1) 2 (2 ∷ (5 ∷ [])) points)
 unfolding stations
 case11 points first second = record { each = refl; whole = refl }
 
 pub case12 : (points : List ℕ) (first second third : ℕ)
-    → Does (eleven first second ++ (twelve third ++ handed)) (station 2 (2 ∷ (5 ∷ [])) points)
+    → Does (eleven first second ++ (twelve third ++ handed)) (station (retrying 1) 2 (2 ∷ (5 ∷ [])) points)
 unfolding stations
 case12 points first second third = record { each = refl; whole = refl }
 

@@ -21,6 +21,7 @@ use Rattle.frame.specs.declared.Answer.the-variants.{Refused as Unread, Read}
 use Rattle.frame.specs.Format.{octets, unit, unwritable}
 use Rattle.frame.specs.Reading.{octet, read, shown}
 use Rattle.clock.specs.Clock.{timeLeft}
+use Rattle.times.specs.declared.Settings.{Settings}
 use Rattle.times.specs.declared.Reckoned.{Reckoned}
 use Rattle.times.specs.declared.Reckoned.the-variants.{Reckon}
 use Rattle.times.specs.Times.{reckoned, standard}
@@ -173,13 +174,26 @@ unfoldable pub told : List Call → World → List (List Event)
 told [] w = []
 told (c ∷ l) w = call c w .events ∷ told l (call c w .world)
 
--- a station with standard settings: TS, the ring, the active access points, and four places a row
+-- a station: its settings, TS, the ring, the active access points, and four places a row
 unfoldable pub ring : List ℕ → List ℕ
 ring [] = replicate 127 0
 ring (a ∷ l) = enter (ring l) a
 
-unfoldable pub station : ℕ → List ℕ → List ℕ → Started
-station ts l points = start standard ts (ring l) points 4 4
+unfoldable pub station : Settings → ℕ → List ℕ → List ℕ → Started
+station s ts l points = start s ts (ring l) points 4 4
+
+-- the standard settings, but for a retry limit of so much
+unfoldable pub retrying : ℕ → Settings
+retrying limit =
+    record {
+      tset = standard .tset;
+      tqui = standard .tqui;
+      mintsdr = standard .mintsdr;
+      maxtsdr = standard .maxtsdr;
+      ttd = standard .ttd;
+      ttr = standard .ttr;
+      retries = record { 0 = limit };
+    }
 
 -- its rows, all octets 0
 abbrev pub fourPlaces : Rows
@@ -221,8 +235,8 @@ passes = sends aToken (0xDC ∷ (0x05 ∷ (0x02 ∷ []))) 75
 abbrev pub tokenFrom5 : List ℕ
 tokenFrom5 = 0xDC ∷ (0x02 ∷ (0x05 ∷ []))
 
--- 11 "two SRD high to 7; token from 5 at 100: 6D sent; slot: the same; slot: NA, count 2, token DC 05 02"; the slots
--- at any clock
+-- 11 "Standard settings, ring 2 and 5, TS 2, retry limit 1, two SRD high to 7; token from 5 at 100: 6D sent; slot: the
+-- same; slot: NA, count 2, token DC 05 02"; the slots at any clock
 unfoldable pub eleven : ℕ → ℕ → List Step
 eleven first second =
     record { call = submit High (toSeven 0 0) []; told = accepted High 0 ∷ [] }
@@ -268,21 +282,22 @@ acknowledged clock =
 -- ---- the twelve. Of what the page leaves open, the active access points, the clocks of the slots, of the SDN and of what
 -- is heard in 3 and 4, what stands behind LE 3 and 250, and head and data of the longest frame are any. Fixed are: rows of
 -- four places with all octets 0, room for an indication, no updates, an output of 255 octets, requests without access
--- points and data, an SDN low with the data 01; in 3 and 4 the ring of the two stations, in 4 all access points active; in
--- 7 the frame that is read back, of 246 octets 07
+-- points and data, an SDN low with the data 01; in 3 and 4 the ring of the two stations and the standard settings, in 4 all
+-- access points active; in 7 the frame that is read back, of 246 octets 07
 pub record Twelve : Type 0 where
   pub case1 : BothWays string1 fields1 []
   pub case2 : BothWays string2 fields2 []
   pub case3 : BothWays string3 fields3 []
-  pub case3Replied : (points : List ℕ) (clock : ℕ) → Does (replied clock) (station 5 (2 ∷ (5 ∷ [])) points)
+  pub case3Replied : (points : List ℕ) (clock : ℕ) → Does (replied clock) (station standard 5 (2 ∷ (5 ∷ [])) points)
   pub case4 : BothWays string4 (Frame head4) []
-  pub case4Answered : (clock : ℕ) → Does (acknowledged clock) (station 3 (2 ∷ (3 ∷ [])) (replicate 64 1))
+  pub case4Answered : (clock : ℕ) → Does (acknowledged clock) (station standard 3 (2 ∷ (3 ∷ [])) (replicate 64 1))
   pub case5 : BothWays string5 fields5 data5
   pub case6 : reading string6 ≡ means fields6 data6
   pub case7 : Seven
   pub case8 : reading [] ≡ refused 1
   pub case9 : reckoned standard 2 ≡ times9
   pub case10 : Ten
-  pub case11 : (points : List ℕ) (first second : ℕ) → Does (eleven first second) (station 2 (2 ∷ (5 ∷ [])) points)
+  pub case11 : (points : List ℕ) (first second : ℕ)
+      → Does (eleven first second) (station (retrying 1) 2 (2 ∷ (5 ∷ [])) points)
   pub case12 : (points : List ℕ) (first second third : ℕ)
-      → Does (eleven first second ++ (twelve third ++ handed)) (station 2 (2 ∷ (5 ∷ [])) points)
+      → Does (eleven first second ++ (twelve third ++ handed)) (station (retrying 1) 2 (2 ∷ (5 ∷ [])) points)

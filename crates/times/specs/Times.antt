@@ -82,7 +82,8 @@ waitOf s Reply = s .mintsdr .0
 waitOf s AfterSdn = tid2 s
 waitOf s Other = tid1 s
 
--- "Standard settings: Tset 20, Tqui 0, min TSDR 20, max TSDR 400, TTD 1, TTR 10000, retry limit 1"
+-- "Standard settings: Tset 20, Tqui 0, min TSDR 20, max TSDR 400, TTD 1, TTR 10000"; their retry limit is document
+-- 02's (order 8): "The standard prefers a limit of 0, and our standard settings have 1. Change it to 0"
 unfoldable pub standard : Settings
 standard =
     record {
@@ -92,5 +93,5 @@ standard =
       maxtsdr = record { 0 = 400 };
       ttd = record { 0 = 1 };
       ttr = record { 0 = 10000 };
-      retries = record { 0 = 1 };
+      retries = record { 0 = 0 };
     }

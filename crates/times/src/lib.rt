@@ -30,7 +30,7 @@ pub enum Sending {
     Other,
 }
 
-// The standard settings.
+// The standard settings. They have no retries: who wants some says so.
 pub const STANDARD: Settings = Settings {
     tset: BitTime(20),
     tqui: BitTime(0),
@@ -38,7 +38,7 @@ pub const STANDARD: Settings = Settings {
     maxtsdr: BitTime(400),
     ttd: BitTime(1),
     ttr: BitTime(10000),
-    retries: Count(1),
+    retries: Count(0),
 };
 
 // The standard settings, by their definition.

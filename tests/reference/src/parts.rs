@@ -179,17 +179,18 @@ mod tests {
         calls.iter().map(|call| parts.answer(call).unwrap()).collect()
     }
 
-    /// The standard settings and cases 9 and 10 of document 01, and its own example of a ring.
+    /// The standard settings, with document 02's retry limit; cases 9 and 10 of document 01, and its own example of a
+    /// ring.
     #[test]
     fn document() {
         let calls = [
             "standard",
-            "settings 20 0 20 400 1 10000 1 2",
+            "settings 20 0 20 400 1 10000 0 2",
             "left 1099 100 1000",
             "left 1100 100 1000",
             "ring 2 2,5",
         ];
-        let expected = ["20 0 20 400 1 10000 1", "0 42 75 400 455 4550 20 400 75", "1", "0", "5 5"];
+        let expected = ["20 0 20 400 1 10000 0", "0 42 75 400 455 4550 20 400 75", "1", "0", "5 5"];
         assert_eq!(answers(&calls), expected);
     }
 

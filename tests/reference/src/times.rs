@@ -53,8 +53,9 @@ impl Settings {
     }
 }
 
+/// The standard settings of document 01, with the retry limit of document 02's order 8.
 pub const STANDARD: Settings =
-    Settings { tset: 20, tqui: 0, min_tsdr: 20, max_tsdr: 400, ttd: 1, ttr: 10_000, retry_limit: 1 };
+    Settings { tset: 20, tqui: 0, min_tsdr: 20, max_tsdr: 400, ttd: 1, ttr: 10_000, retry_limit: 0 };
 
 /// The time from an earlier clock to a later one, modulo 2^32: a clock that goes back is a long wait.
 pub fn elapsed(earlier: u32, later: u32) -> u32 {
