@@ -48,3 +48,4 @@ pub mod Entering
 pub mod Submitted
 pub mod Confirmed
 pub mod Ledger
+pub mod Retries

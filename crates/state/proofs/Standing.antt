@@ -89,7 +89,7 @@ pub sending-served : (x : Priority) (n : ℕ) → sending x n .served ≡ x
 unfolding sending
 sending-served x n = by (λ (g : Doing). g .served ≡ x) _ _ _ (λ e. refl) (λ e. refl)
 
-sending-once : (x : Priority) (n : ℕ) → sending x n .sendings ≡ 1
+pub sending-once : (x : Priority) (n : ℕ) → sending x n .sendings ≡ 1
 unfolding sending
 sending-once x n = by (λ (g : Doing). g .sendings ≡ 1) _ _ _ (λ e. refl) (λ e. refl)
 

@@ -178,7 +178,7 @@ same-going : (y : Priority) (ts : Address) (marks : List ℕ) (q q′ : Queue) (
 unfolding octetsIn
 same-going y ts marks q q′ r r′ e f g = rw (e, f, g)
 
-freed-current : (q : Queue) → Ruled q → 0 < q .confirmed → current (freed q) ≡ current q
+pub freed-current : (q : Queue) → Ruled q → 0 < q .confirmed → current (freed q) ≡ current q
 unfolding current freed
 freed-current q u h =
     let e : q .confirmed - 1 + 1 ≡ q .confirmed = omega arith in

@@ -15,3 +15,4 @@ pub mod Precedence
 pub mod Holds
 pub mod Callers
 pub mod Submitted
+pub mod Retries
