@@ -1,7 +1,8 @@
-/* station right|any: makes each call of the library once, between two marks for the plugin (bench/count.c) and on a
- * painted stack, and prints a line for each: operation, octets or places, and the octets of stack that were touched. A
- * capture comes on standard input. By `right` the first call that answers wrong ends the program. By `any` it is linked
- * with bench/empty.c in place of the library, and the figures are those of the caller alone. */
+/* station right|any: makes each call of the library once, but cihlomet_standard, which hands out seven numbers: between
+ * two marks for the plugin (bench/count.c) and on a painted stack, and prints a line for each: operation, octets or
+ * places, and the octets of stack that were touched. A capture comes on standard input. By `right` the first call that
+ * answers wrong ends the program. By `any` it is linked with bench/empty.c in place of the library, and the figures are
+ * those of the caller alone. */
 #include "../include/cihlomet.h"
 #include <stdio.h>
 #include <stdlib.h>
@@ -21,6 +22,7 @@ struct rows {
 #define ROWS(r) (r).row, CIHLOMET_RECORD * (size_t)places, (r).area, CIHLOMET_DATA * (size_t)places
 #define OUT out, sizeof out
 
+/* The standard settings but for one retry, so that a repeat can be measured. */
 static const struct cihlomet_settings settings = {20, 0, 20, 400, 1, 10000, 1};
 static size_t places, data_count;
 static uint8_t to, from;

@@ -63,14 +63,15 @@ static void say_indication(const struct cihlomet_indication *shown, const uint8_
 
 /* ---- The station. */
 
-/* Starts station `ts` with the standard settings, in a ring of 2 and 5, its access points 60, 62 and "none" active. */
+/* Starts station `ts` in a ring of 2 and 5, its access points 60, 62 and "none" active, with the standard settings but
+ * for one retry: they have none. */
 static void start(uint8_t ts)
 {
-    const struct cihlomet_settings standard = {
-        .tset = 20, .tqui = 0, .min_tsdr = 20, .max_tsdr = 400, .ttd = 1, .ttr = 10000, .retries = 1};
+    struct cihlomet_settings settings = cihlomet_standard();
+    settings.retries = 1;
     station.masters[2] = station.masters[5] = 1;
     station.points[60] = station.points[62] = station.points[63] = 1; /* at 63 "none" */
-    struct cihlomet_renewed answer = cihlomet_start(standard, ts, station.masters, station.started, station.marks,
+    struct cihlomet_renewed answer = cihlomet_start(settings, ts, station.masters, station.started, station.marks,
                                                     station.points, station.memory, PLACES, PLACES);
     if (accepted(answer.refused, &answer.core))
         putchar('\n');

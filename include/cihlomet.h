@@ -126,6 +126,7 @@ enum {
     CIHLOMET_MARK_UNKNOWN = 2 /* a frame count mark that is no bit */
 };
 
+/* A station's settings; `retries` is the retry limit. */
 struct cihlomet_settings {
     uint32_t tset, tqui, min_tsdr, max_tsdr, ttd, ttr, retries;
 };
@@ -198,6 +199,10 @@ struct cihlomet_answer {
     struct cihlomet_indication indication;
     struct cihlomet_core core;
 };
+
+/* The standard settings: Tset 20, Tqui 0, min TSDR 20, max TSDR 400, TTD 1, TTR 10000, and no retries: a request that
+ * is lost is confirmed NA after one sending. A caller who wants retries sets them before it starts a station. */
+struct cihlomet_settings cihlomet_standard(void);
 
 /* Starts a station with a set of masters, active access points and rows of `high` and `low` places: fills started,
  * marks and memory. The core of a refused start is refused by every call. */

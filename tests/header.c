@@ -487,6 +487,21 @@ static void times_in_a_core(void)
     CLAIM(s->core.stranger == CIHLOMET_ADDRESSES && s->core.ps == 50 && s->masters[50] == 1 && s->core.begun == 1);
 }
 
+/* The standard settings are those that the header names, and with them a slot that expires ends a request: no retry. */
+static void standard_settings(void)
+{
+    struct cihlomet_settings standard = cihlomet_standard();
+    CLAIM(standard.tset == 20 && standard.tqui == 0 && standard.min_tsdr == 20 && standard.max_tsdr == 400);
+    CLAIM(standard.ttd == 1 && standard.ttr == 10000 && standard.retries == 0);
+    begin();
+    CLAIM(start(standard, TS, HIGH_PLACES, LOW_PLACES).refused == 0);
+    submit(true, CIHLOMET_SRD, LIFT, POINT, OWN_POINT);
+    CLAIM(token(CLOCK, PS).length == 11 && s->core.phase == CIHLOMET_REPLY_AWAITED);
+    CLAIM(slot(CLOCK).length == 3 && s->core.phase == CIHLOMET_PASS_CHECKED);
+    struct cihlomet_collected c = collect(true);
+    CLAIM(c.refused == 0 && c.status == CIHLOMET_NA && c.count == 1);
+}
+
 /* ---- Services, statuses and what collect answers. */
 static uint8_t code_sent(bool upper, uint8_t service)
 {
@@ -702,6 +717,7 @@ int main(void)
     phases();
     low_hold();
     times_in_a_core();
+    standard_settings();
     services();
     marks();
     statuses();

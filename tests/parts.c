@@ -1,6 +1,8 @@
 /* The harness of the station's parts: reads a script on standard input, asks the library each call and prints its
  * answers, a line a call, as `reference parts` does. Calls on a row go to the row that the last `row` line laid out.
- * Every buffer that it lends ends at a fence. What a call may not touch is compared with what it was before. */
+ * The standard settings are asked of libcihlomet, which hands them out. Every buffer that it lends ends at a fence.
+ * What a call may not touch is compared with what it was before. */
+#include "../include/cihlomet.h"
 #include "parts.h"
 #include "lent.h"
 #include <stdio.h>
@@ -27,7 +29,7 @@ static uint32_t wide(const char *word)
 static void ask_standard(char **word)
 {
     (void)word;
-    struct parts_settings s = parts_standard();
+    struct cihlomet_settings s = cihlomet_standard();
     printf("%u %u %u %u %u %u %u\n", s.tset, s.tqui, s.min_tsdr, s.max_tsdr, s.ttd, s.ttr, s.retries);
 }
 

@@ -16,11 +16,6 @@ struct parts_times {
     uint32_t tsm, tid1, tid2, tsl, tto, reply, after_sdn, other;
 };
 
-/* Settings. */
-struct parts_settings {
-    uint32_t tset, tqui, min_tsdr, max_tsdr, ttd, ttr, retries;
-};
-
 /* What a call on a row answers: the place that submit took, else 0, and the queue. */
 struct parts_queue {
     uint8_t refused, place, first, confirmed, unconfirmed;
@@ -30,9 +25,6 @@ struct parts_queue {
 struct parts_collected {
     uint8_t refused, place, service, destination, to, from, length, status, count, first, confirmed, unconfirmed;
 };
-
-/* The standard settings. */
-struct parts_settings parts_standard(void);
 
 /* Refusal 20. */
 struct parts_times parts_reckon(uint32_t tset, uint32_t tqui, uint32_t min_tsdr, uint32_t max_tsdr, uint32_t ttd,

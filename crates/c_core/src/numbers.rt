@@ -185,7 +185,7 @@ pub fn settings_in(s: FlatSettings) -> Settings
 }
 
 // The numbers of settings.
-fn settings_of(s: Settings) -> FlatSettings
+pub fn settings_of(s: Settings) -> FlatSettings
     ensures { λ r. ⌜ r ≡ settingsOf s ⌝ }
 {
     FlatSettings {

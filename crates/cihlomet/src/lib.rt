@@ -5,12 +5,13 @@ ghost use mathlib.Core.List.{[]};
 ghost use lib.ListN.{length};
 ghost use Rattle.frame.specs.Reading.{read as Reading·read};
 ghost use Rattle.frame.specs.Format.{written, left};
+ghost use Rattle.times.specs.Times.{standard};
 ghost use Rattle.state.specs.World.{rows, worldOf};
 ghost use Rattle.state.specs.Calls.{start as Calls·start, reset as Calls·reset, submit as Calls·submit};
 ghost use Rattle.state.specs.Calls.{collect as Calls·collect, frame as Calls·frame, sent as Calls·sent};
 ghost use Rattle.state.specs.Calls.{slot as Calls·slot};
 ghost use Rattle.state.specs.Told.{lent, worldIn, startedOf, resetOf, standing};
-ghost use Rattle.c_core.specs.Numbers.{settingsIn, coreIn, keptIn};
+ghost use Rattle.c_core.specs.Numbers.{settingsIn, settingsOf, coreIn, keptIn};
 ghost use Rattle.c_core.specs.Handover.{stateIn, requestFrom, roomOf, holding, filled, starting, held, resetting};
 ghost use Rattle.c_core.specs.Handover.{lodged, submitting, collecting};
 ghost use Rattle.capture.specs.Listing.{listed, left as Listing·left};
@@ -22,6 +23,7 @@ use c_core::handover::FlatAccepted;
 use c_core::handover::FlatAnswer;
 use c_core::handover::FlatCollected;
 use c_core::handover::FlatRenewed;
+use c_core::numbers;
 use c_core::numbers::FlatSettings;
 use c_core::numbers::Numbers;
 use c_frames::FlatFrame;
@@ -81,6 +83,14 @@ pub extern "C" fn cihlomet_list(capture: &[u8], out: &mut [u8]) -> usize
     ensures { λ _. ⌜ now (out .exit) ≡ Listing·left (now (capture .entry)) (now (out .entry)) ⌝ }
 {
     capture::list(capture, out)
+}
+
+// The standard settings. They have no retries: who wants some says so.
+#[no_mangle]
+pub extern "C" fn cihlomet_standard() -> FlatSettings
+    ensures { λ r. ⌜ r ≡ settingsOf standard ⌝ }
+{
+    numbers::settings_of(times::standard())
 }
 
 // Starts a station with a set of masters, active access points and rows of so many places.

@@ -9,7 +9,6 @@ use Rattle.times.specs.declared.Reckoned.the-variants.{Refused, Reckon}
 use Rattle.times.specs.declared.Sending.the-variants.{Reply, AfterSdn, Other}
 use Rattle.times.specs.Times.{reckoned, waitOf}
 use Rattle.ring.specs.Ring.{nextOf, previousOf}
-use Rattle.test_parts.specs.declared.reckoned.FlatSettings.{FlatSettings}
 use Rattle.test_parts.specs.declared.reckoned.FlatTimes.{FlatTimes}
 
 -- the settings that numbers mean
@@ -23,19 +22,6 @@ settingsFrom tset tqui mintsdr maxtsdr ttd ttr retries =
       ttd = record { 0 = ttd };
       ttr = record { 0 = ttr };
       retries = record { 0 = retries };
-    }
-
--- settings in numbers
-unfoldable pub flatSettings : Settings → FlatSettings
-flatSettings s =
-    record {
-      tset = s .tset .0;
-      tqui = s .tqui .0;
-      mintsdr = s .mintsdr .0;
-      maxtsdr = s .maxtsdr .0;
-      ttd = s .ttd .0;
-      ttr = s .ttr .0;
-      retries = s .retries .0;
     }
 
 -- ---- times

@@ -1,10 +1,9 @@
 // The station's times and the search in its ring for the tests outside Rattle, as C functions. Numbers go in and
 // structs of numbers come out; every input has an answer. Assumes nothing.
 ghost use mathlib.Core.Path.{_≡_};
-ghost use Rattle.times.specs.Times.{Small, standard};
+ghost use Rattle.times.specs.Times.{Small};
 ghost use Rattle.times.specs.declared.Reckoned.the-variants.{Refused, Reckon};
-ghost use Rattle.test_parts.specs.Parts.{settingsFrom, flatSettings, flatTimes, reckons, isLeft, nexts};
-ghost use Rattle.test_parts.specs.Parts.{previouses};
+ghost use Rattle.test_parts.specs.Parts.{settingsFrom, flatTimes, reckons, isLeft, nexts, previouses};
 use clock::BitTime;
 use frame::Address;
 use times::Count;
@@ -12,18 +11,6 @@ use times::Reckoned;
 use times::Sending;
 use times::Settings;
 use times::Times;
-
-// Settings, in numbers.
-#[repr(C)]
-pub struct FlatSettings {
-    pub tset: u32,
-    pub tqui: u32,
-    pub mintsdr: u32,
-    pub maxtsdr: u32,
-    pub ttd: u32,
-    pub ttr: u32,
-    pub retries: u32,
-}
 
 // The times that follow from settings, and the waits: refused is 0 or the refusal, and then all others are 0.
 #[repr(C)]
@@ -37,23 +24,6 @@ pub struct FlatTimes {
     pub reply: u32,
     pub aftersdn: u32,
     pub other: u32,
-}
-
-// The standard settings.
-#[no_mangle]
-pub extern "C" fn parts_standard() -> FlatSettings
-    ensures { λ r. ⌜ r ≡ flatSettings standard ⌝ }
-{
-    let s = times::standard();
-    FlatSettings {
-        tset: s.tset.0,
-        tqui: s.tqui.0,
-        mintsdr: s.mintsdr.0,
-        maxtsdr: s.maxtsdr.0,
-        ttd: s.ttd.0,
-        ttr: s.ttr.0,
-        retries: s.retries.0,
-    }
 }
 
 fn flat_refused(n: u8, s: Settings) -> FlatTimes

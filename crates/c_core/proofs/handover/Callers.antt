@@ -9,6 +9,7 @@ use lib.ListN.{length}
 use Rattle.choice.proofs.Rules.{pick-true, pick-false, same-true, same-false, by-pick}
 use Rattle.laid.specs.Laid.{laid}
 use Rattle.request.specs.declared.Record.{Record}
+use Rattle.times.specs.Times.{standard}
 use Rattle.state.specs.declared.Priority.{Priority}
 use Rattle.state.specs.declared.Priority.the-variants.{High, Low}
 use Rattle.state.specs.declared.Core.{Core}
@@ -31,11 +32,12 @@ use Rattle.state.proofs.Start.{begun-never-29}
 use Rattle.state.proofs.Demand3.{demand-3}
 use Rattle.state.proofs.Callers.{chain-run, accepted-beside, handed-beside, station-of, accepted-at}
 use Rattle.c_core.specs.declared.numbers.Numbers.{Numbers}
+use Rattle.c_core.specs.declared.numbers.FlatSettings.{FlatSettings}
 use Rattle.c_core.specs.declared.handover.FlatAccepted.{FlatAccepted}
 use Rattle.c_core.specs.declared.handover.FlatCollected.{FlatCollected}
 use Rattle.c_core.specs.declared.handover.FlatRenewed.{FlatRenewed}
 use Rattle.c_core.specs.declared.handover.FlatAnswer.{FlatAnswer}
-use Rattle.c_core.specs.Numbers.{settingsIn, numbersOf}
+use Rattle.c_core.specs.Numbers.{settingsIn, settingsOf, numbersOf}
 use Rattle.c_core.specs.Handover.{stateIn, requestFrom, roomOf, numbersAfter, flatAccepted, flatCollected}
 use Rattle.c_core.specs.Handover.{flatRenewed, flatAnswer, flatStarted, Lodged, lodged, lodging, submitting}
 use Rattle.c_core.specs.Handover.{collecting, Held, held, holding, resetting, Filled, filled, starting}
@@ -231,6 +233,10 @@ one-start e f =
       ap (λ (x : Filled). x .marks) g,
       ap (λ (x : Filled). x .octets) g,
     )
+
+-- and of the standard settings
+pub one-standard : {a b : FlatSettings} → a ≡ settingsOf standard → b ≡ settingsOf standard → a ≡ b
+one-standard e f = e ∙ sym f
 
 -- ---- the world that is meant by what is kept after a call is the one that the rules' call leaves
 numbers-new : (n : Numbers) {m : ℕ} (c : Core) (k : Kept) → m ≡ 0 → numbersAfter n m c k ≡ numbersOf c k

@@ -1,6 +1,6 @@
--- The laws of the numbers: a core and what the memory keeps come back from their numbers as they were, so a program
--- that holds the numbers between calls holds all of both; and numbers that stand for no case are refused 29 with any
--- sets. Assumes nothing.
+-- The laws of the numbers: settings, a core and what the memory keeps come back from their numbers as they were, so a
+-- program that holds the numbers between calls holds all of them; and numbers that stand for no case are refused 29
+-- with any sets. Assumes nothing.
 use Prim.Native.Nat.{ℕ}
 use mathlib.Core.Bool.{Bool, true, false}
 use mathlib.Core.List.{List}
@@ -8,6 +8,7 @@ use mathlib.Core.Path.{_≡_, refl}
 use native.Mathlib.Omega.{arith}
 use Rattle.choice.specs.Choice.{pick, less, same, said}
 use Rattle.choice.proofs.Rules.{pick-true, less-true}
+use Rattle.times.specs.declared.Settings.{Settings}
 use Rattle.times.specs.Times.{unruly}
 use Rattle.state.specs.declared.Phase.{Phase}
 use Rattle.state.specs.declared.Phase.the-variants.{Idle, Awaited, Sdn, Check, ToSelf}
@@ -63,6 +64,11 @@ well-formed : (p : Phase) (s : Priority) (x b : Bool)
     → malformed (phaseNumber p) (servedNumber s) (flagNumber x) (flagNumber b) ≡ false
 unfolding malformed pick
 well-formed p s x b = rw (phase-below p, served-below s, flag-below x, flag-below b)
+
+-- ---- settings come back: a start that is given the numbers of the standard settings is one with the standard settings
+pub settings-back : (s : Settings) → settingsIn (settingsOf s) ≡ s
+unfolding settingsIn settingsOf
+settings-back s = refl
 
 -- ---- the core and what the memory keeps come back
 pub core-back : (c : Core) (k : Kept) → coreIn (numbersOf c k) ≡ c
