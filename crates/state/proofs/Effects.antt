@@ -89,6 +89,11 @@ queueAt y s = queueBy y (s .core .high) (s .core .low)
 abbrev pub rowsAt : Priority → Site → Rows
 rowsAt y s = rowsBy y (s .high) (s .low)
 
+pub queue-by : (y : Priority) (s : Site) → queueAt y s ≡ queueOf y (s .core)
+unfolding queueBy queueOf
+queue-by High s = refl
+queue-by Low s = refl
+
 pub rows-by : (y : Priority) (s : Site) → rowsAt y s ≡ rowsOf y s
 unfolding rowsBy rowsOf
 rows-by High s = refl

@@ -10,8 +10,7 @@ use Rattle.choice.proofs.Rules.{pick-true, same-true}
 use Rattle.times.specs.declared.Settings.{Settings}
 use Rattle.times.specs.Times.{standard}
 use Rattle.request.specs.declared.Record.{Record}
-use Rattle.queue.specs.Queue.{current, grown, take}
-use Rattle.queue.proofs.Laws.{place-grown}
+use Rattle.queue.specs.Queue.{current, take}
 use Rattle.rows.specs.Rows.{confirm}
 use Rattle.state.specs.declared.Priority.{Priority}
 use Rattle.state.specs.declared.Priority.the-variants.{High, Low}
@@ -38,8 +37,8 @@ use Rattle.state.proofs.Standing.{sending-flight, sending-served, sendi
 use Rattle.state.proofs.Poise.{queueBy, FirmAt, Poised, poise, closing-flight}
 use Rattle.state.proofs.Ordered.{poised}
 use Rattle.state.proofs.Start.{begun-orderly, begun-marks}
-use Rattle.state.proofs.Tally.{freed-current}
-use Rattle.state.proofs.Effects.{queueAt}
+use Rattle.state.proofs.Tally.{grown-current, freed-current}
+use Rattle.state.proofs.Effects.{queueAt, queue-by}
 use Rattle.state.proofs.Staying.{alike-itself}
 use Rattle.state.proofs.Opened.{stations}
 
@@ -85,11 +84,11 @@ closed-none false i = i
 -- ---- submit and collect leave the request that is being sent where it is
 current-taken : (y z : Priority) (r : Record) (x : List ℕ) (s : Site)
     → current (queueAt z (grownBy y r x s)) ≡ current (queueAt z s)
-unfolding withRows withCore withQueue queueOf rowsOf take current grown queueBy
-current-taken High High r x s = place-grown (s .core .high) _
+unfolding withRows withCore withQueue queueOf rowsOf take queueBy
+current-taken High High r x s = grown-current (s .core .high)
 current-taken High Low r x s = refl
 current-taken Low High r x s = refl
-current-taken Low Low r x s = place-grown (s .core .low) _
+current-taken Low Low r x s = grown-current (s .core .low)
 
 current-handed : (t : Settings) (ts : ℕ) (y z : Priority) (s : Site) → FirmAt t ts s
     → 0 < queueOf y (s .core) .confirmed → current (queueAt z (freedOf y s)) ≡ current (queueAt z s)
@@ -98,11 +97,6 @@ current-handed t ts High High s f h = freed-current _ (f .high .ruled) h
 current-handed t ts High Low s f h = refl
 current-handed t ts Low High s f h = refl
 current-handed t ts Low Low s f h = freed-current _ (f .low .ruled) h
-
-queue-by : (y : Priority) (s : Site) → queueOf y (s .core) ≡ queueAt y s
-unfolding queueOf queueBy
-queue-by High s = refl
-queue-by Low s = refl
 
 -- ---- how the request at place n of the queue p stands
 module _ (p : Priority) (n : ℕ) where
@@ -147,13 +141,13 @@ module _ (p : Priority) (n : ℕ) where
       (both (alike p (sending y service .served)) (same n (current (queueAt (sending y service .served) s))))
       (sending y service .sendings) (pick (ours y s) (k + 1) k)
   stands-sent y service s i =
-      rw (sending-served y service, queue-by y s)
+      rw (sending-served y service, ← queue-by y s)
       (counted-first (sending-flight y service) (sending-once y service) i)
 
   module _ (y : Priority) (s : Site) (k : ℕ) (e : s .core .doing .served ≡ y)
       (h : flight (s .core .doing .phase) ≡ true) (i : Stands calm s k) where
     ours-is : both (alike p (s .core .doing .served)) (same n (current (queueAt (s .core .doing .served) s))) ≡ ours y s
-    ours-is = ap (λ (z : Priority). both (alike p z) (same n (current (queueAt z s)))) e ∙ sym (rw (queue-by y s))
+    ours-is = ap (λ (z : Priority). both (alike p z) (same n (current (queueAt z s)))) e ∙ rw (queue-by y s)
 
     going : Counted (flight (s .core .doing .phase)) (ours y s) (s .core .doing .sendings) k
     unfolding Stands
@@ -244,7 +238,7 @@ module _ (w : World) (b : Begun w) (l : List Call) (before after : List Event) (
   unfolding standard
   standard-unrepeated i = let h = rw i at retries-within in omega (arith, h)
 
--- ---- and a request that is lost is confirmed NA at once, with count 1
+-- ---- and a request whose slot expires is confirmed NA, with count 1
 pub lost-unrepeated : (points : List ℕ) (clock : ℕ)
     → Does (unrepeated clock) (station standard 2 (2 ∷ (5 ∷ [])) points)
 unfolding stations unrepeated

@@ -178,6 +178,10 @@ same-going : (y : Priority) (ts : Address) (marks : List ℕ) (q q′ : Queue) (
 unfolding octetsIn
 same-going y ts marks q q′ r r′ e f g = rw (e, f, g)
 
+pub grown-current : (q : Queue) → current (grown q) ≡ current q
+unfolding current grown
+grown-current q = place-grown q (q .confirmed)
+
 pub freed-current : (q : Queue) → Ruled q → 0 < q .confirmed → current (freed q) ≡ current q
 unfolding current freed
 freed-current q u h =
@@ -216,22 +220,18 @@ module _ (y : Priority) (ts : Address) (marks : List ℕ) (q : Queue) (r : Rows)
     unfolding current
     apart i = let k = place-apart q _ _ a (omega (arith, f .ruled .used, h)) i in omega (arith, k, h)
 
-    now : current (grown q) ≡ current q
-    unfolding current grown
-    now = place-grown q (q .confirmed)
-
     same-record : recordIn (grown q) filled ≡ recordIn q r
     unfolding recordIn
     same-record =
-        ap (at (put (r .row) later e)) now ∙ at-other (r .row) later (current q) e
+        ap (at (put (r .row) later e)) (grown-current q) ∙ at-other (r .row) later (current q) e
         (omega (arith, below, f .lent .places)) apart
 
     same-data : dataIn (grown q) filled ≡ dataIn q r
     unfolding dataIn
     same-data =
-        ap (λ (k : ℕ). content (fill (r .area) later x) k (recordIn (grown q) filled .length)) now
+        ap (λ (k : ℕ). content (fill (r .area) later x) k (recordIn (grown q) filled .length)) (grown-current q)
         ∙ ap (λ (k : Record). content (fill (r .area) later x) (current q) (k .length)) same-record
         ∙ content-other (r .area) later (current q) x _ (omega (arith, below, f .lent .areas)) l fits-place apart
 
     pub going-grown : goingIn y ts marks (grown q) filled ≡ goingIn y ts marks q r
-    going-grown = same-going y ts marks q (grown q) r filled now same-record same-data
+    going-grown = same-going y ts marks q (grown q) r filled (grown-current q) same-record same-data
