@@ -35,9 +35,9 @@ unfoldable pub sendingsLast : Priority → ℕ → List Event → ℕ → ℕ
 sendingsLast p n [] k = k
 sendingsLast p n (e ∷ l) k = sendingsLast p n l (sendingsAfter p n e k)
 
--- ---- cases 11 and 12 of document 01 with the standard settings, which ask for no retry: two SRD high to 7; token from 5 at
--- 100: 6D sent; slot, at any clock: NA, count 1, token DC 05 02. Then token from 5 at 600: 6D again, for the second
--- request; slot at 1200: the same end. Collect: both NA, count 1
+-- ---- case 11 of document 01 with the standard settings, which ask for no retry: two SRD high to 7; token from 5 at 100: 6D
+-- sent; slot, at any clock: NA, count 1, token DC 05 02. Then the second request in the same way: token from 5 at 600: 6D
+-- again; slot at 1200: NA, count 1, token. Collect: both NA, count 1
 unfoldable pub unrepeated : ℕ → List Step
 unrepeated clock =
     record { call = submit High (toSeven 0 0) []; told = accepted High 0 ∷ [] }
