@@ -14,7 +14,7 @@ use Rattle.state.proofs.Walk.{Course, declined, carried, course}
 -- what is known of the site at each point, whatever was told
 pub record Ground : Type 1 where
   pub Given : Point → Site → Type 0
-  pub moved : {p q : Point} {s t : Site} → Move Any p s q t → Given p s → Given q t
+  pub moved : {started : List ℕ} {p q : Point} {s t : Site} → Move Any started p s q t → Given p s → Given q t
   pub acted : {p q : Point} {s t : Site} {e : Event} → Act Any p s e q t → Given p s → Given q t
 
 abbrev pub ungrounded : Ground
@@ -30,7 +30,8 @@ pub record Account (g : Ground) : Type 1 where
   pub more : (e : Event) (l : List Event) (h : History) → afterAll (e ∷ l) h ≡ afterAll l (after e h)
   pub Meets : Event → History → Type 0
   pub At : Point → Site → History → Type 0
-  pub moves : {p q : Point} {s t : Site} → Move Any p s q t → (h : History) → g .Given p s → At p s h → At q t h
+  pub moves : {started : List ℕ} {p q : Point} {s t : Site} → Move Any started p s q t → (h : History)
+      → g .Given p s → At p s h → At q t h
   pub acts : {p q : Point} {s t : Site} {e : Event} → Act Any p s e q t → (h : History) → g .Given p s → At p s h
       → Meets e h × At q t (after e h)
   pub refuses : (n : ℕ) (s : Site) (h : History) → At calm s h → Meets (refused n) h × At calm s (after (refused n) h)
@@ -65,7 +66,8 @@ module _ {g : Ground} (a : Account g) where
   unfolding Right
   kept-more h e l m k = record { right = (m, k .right); at = rw (a .more e l h) (k .at) }
 
-  pub kept-trail : {p q : Point} {s t : Site} {l : List Event} → Trail Any p s l q t → (h : a .History) → g .Given p s
+  pub kept-trail : {started : List ℕ} {p q : Point} {s t : Site} {l : List Event} → Trail Any started p s l q t
+      → (h : a .History) → g .Given p s
       → a .At p s h → Kept h l q t
   kept-trail stop h z i = kept-none h _ _ i
   kept-trail (move m r) h z i = kept-trail r h (g .moved m z) (a .moves m h z i)
@@ -82,7 +84,8 @@ module _ {g : Ground} (a : Account g) where
   kept-course (carried c) h z i = kept-trail (c .trail) h z i
 
 -- ---- the ground
-pub given-trail : (g : Ground) {p q : Point} {s t : Site} {l : List Event} → Trail Any p s l q t → g .Given p s
+pub given-trail : (g : Ground) {started : List ℕ} {p q : Point} {s t : Site} {l : List Event}
+    → Trail Any started p s l q t → g .Given p s
     → g .Given q t
 given-trail g stop z = z
 given-trail g (move m r) z = given-trail g r (g .moved m z)

@@ -69,7 +69,8 @@ tame-act (breaks s h) l i = i
 tame-act (clears-high a b s h) l i = i
 tame-act (clears-low a b s h) l i = i
 
-tame : {k : Type 0} {p q : Point} {s t : Site} {l : List Event} → Trail k p s l q t → refuses l ≡ false
+tame : {k : Type 0} {started : List ℕ} {p q : Point} {s t : Site} {l : List Event} → Trail k started p s l q t
+    → refuses l ≡ false
 unfolding refuses
 tame stop = refl
 tame (move m r) = tame r
@@ -96,7 +97,8 @@ silent-act (breaks s h) l i = i
 silent-act (clears-high a b s h) l i = i
 silent-act (clears-low a b s h) l i = i
 
-silent : {p q : Point} {s t : Site} {l : List Event} → Trail ⊥ p s l q t → telling l .indication ≡ None
+silent : {started : List ℕ} {p q : Point} {s t : Site} {l : List Event} → Trail ⊥ started p s l q t
+    → telling l .indication ≡ None
 unfolding telling untold
 silent stop = refl
 silent (move m r) = silent r
@@ -106,20 +108,20 @@ pub record Calm (d : Done) : Type 0 where
   pub calm : refuses (d .events) ≡ false
   pub silent : telling (d .events) .indication ≡ None
 
-calmly : {p q : Point} {s : Site} {d : Done} → Goes ⊥ p s q d → Calm d
+calmly : {p q : Point} {s : Site} {d : Done} → Goes ⊥ [] p s q d → Calm d
 calmly g = record { calm = tame (g .trail); silent = silent (g .trail) }
 
 pub calm-token : (clock d a : ℕ) (s : Site) → Calm (token clock d a s)
-calm-token clock d a s = calmly (goes-token ⊥ clock d a s (λ z. absurd z) (λ z. absurd z))
+calm-token clock d a s = calmly (goes-token ⊥ [] clock d a s (λ z. absurd z) (λ z. absurd z))
 
 pub calm-awaited : (clock : ℕ) (octets : List ℕ) (r : Reading) (s : Site) → Calm (awaitedRead clock octets r s)
-calm-awaited clock octets r s = calmly (goes-awaited ⊥ clock octets r s (λ z. absurd z) (λ z. absurd z))
+calm-awaited clock octets r s = calmly (goes-awaited ⊥ [] clock octets r s (λ z. absurd z) (λ z. absurd z))
 
 pub calm-sent : (x : Phase) (clock : ℕ) (s : Site) → Calm (sentIn x clock s)
-calm-sent x clock s = calmly (goes-sent ⊥ x clock s (λ z. absurd z))
+calm-sent x clock s = calmly (goes-sent ⊥ [] x clock s (λ z. absurd z))
 
 pub calm-slot : (x : Phase) (clock : ℕ) (s : Site) → Calm (slotIn x clock s)
-calm-slot x clock s = calmly (goes-slot ⊥ x clock s (λ z. absurd z))
+calm-slot x clock s = calmly (goes-slot ⊥ [] x clock s (λ z. absurd z))
 
 -- ---- a call that is carried out tells no refusal
 pub record Told (d : Called) : Type 0 where
@@ -141,7 +143,8 @@ pub refused-leaves : (c : Call) (w : World) → refuses (call c w .events) ≡ t
 refused-leaves c w h = left-by (course c w) h
 
 -- and nothing is to be sent, so that the output is as it was
-unsent-by : {b : Bool} {w : World} {d : Called} → Course w b d → refuses (d .events) ≡ true → telling (d .events) .octets ≡ []
+unsent-by : {b : Bool} {w : World} {d : Called} → Course w b d → refuses (d .events) ≡ true
+    → telling (d .events) .octets ≡ []
 unfolding refuse telling untold adds
 unsent-by (declined n) h = refl
 unsent-by (carried c) h = absurd (true≢false (sym h ∙ told-carried c .told))

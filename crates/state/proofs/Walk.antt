@@ -62,53 +62,55 @@ use Rattle.state.proofs.Hearing.{lawful-judged, short-updates}
 use Rattle.state.proofs.Places.{fewer}
 
 -- ---- the site
-pub record Goes (k : Type 0) (p : Point) (s : Site) (q : Point) (d : Done) : Type 0 where
-  pub trail : Trail k p s (d .events) q (d .site)
+pub record Goes (k : Type 0) (started : List ℕ) (p : Point) (s : Site) (q : Point) (d : Done) : Type 0 where
+  pub trail : Trail k started p s (d .events) q (d .site)
   pub few : weightIn (d .events) ≤ 1
 
-module _ (k : Type 0) where
-  goes-still : (p : Point) (s : Site) → Goes k p s p (still s)
+module _ (k : Type 0) (started : List ℕ) where
+  goes-still : (p : Point) (s : Site) → Goes k started p s p (still s)
   unfolding still weightIn
   goes-still p s = record { trail = stop; few = omega arith }
 
-  goes-after : {p q r : Point} {s t : Site} {d : Done} → Move k p s q t → Goes k q t r d → Goes k p s r d
+  goes-after : {p q r : Point} {s t : Site} {d : Done} → Move k started p s q t → Goes k started q t r d
+      → Goes k started p s r d
   goes-after m g = record { trail = move m (g .trail); few = g .few }
 
   -- ---- the pass and the choice
-  goes-pass : (s : Site) → Goes k passing s calm (pass s)
+  goes-pass : (s : Site) → Goes k started passing s calm (pass s)
   unfolding pass passEvents done weightIn weight
   goes-pass s = record { trail = act (Acts.passes s) stop; few = omega arith }
 
-  goes-recheck : (s : Site) → (k → s .core .doing .phase ≡ Check) → Goes k calm s calm (recheck s)
+  goes-recheck : (s : Site) → (k → s .core .doing .phase ≡ Check) → Goes k started calm s calm (recheck s)
   unfolding recheck passAgain done weightIn weight
   goes-recheck s e =
-      by (Goes k calm s calm) _ _ _ (λ h. record { trail = act (Acts.repasses s e (true-less _ _ h)) stop; few = omega arith })
+      by (Goes k started calm s calm) _ _ _
+      (λ h. record { trail = act (Acts.repasses s e (true-less _ _ h)) stop; few = omega arith })
       (λ h. goes-after (Acts.drops s e (false-less _ _ h)) (goes-pass _))
 
   goes-chosen : (starts : Bool) (clock : ℕ) (x : Choice) (s : Site) → choice starts (s .core) clock ≡ x
-      → Goes k (choosing starts) s calm (chosen x s)
+      → Goes k started (choosing starts) s calm (chosen x s)
   unfolding chosen send sendEvents finish andThen done weightIn weight
   goes-chosen starts clock (Serve y) s e = record { trail = act (Acts.serves starts clock y s e) stop; few = omega arith }
   goes-chosen starts clock PassOn s e = record { trail = act (Acts.stops starts clock s e) (goes-pass s .trail); few = omega (arith, goes-pass s .few) }
 
-  goes-choose : (starts : Bool) (clock : ℕ) (s : Site) → Goes k (choosing starts) s calm (choose starts clock s)
+  goes-choose : (starts : Bool) (clock : ℕ) (s : Site) → Goes k started (choosing starts) s calm (choose starts clock s)
   unfolding choose
   goes-choose starts clock s = goes-chosen starts clock _ s refl
 
   -- ---- a hold's start
-  goes-begin : (clock : ℕ) (s : Site) → Goes k free s calm (begin clock s)
+  goes-begin : (clock : ℕ) (s : Site) → Goes k started free s calm (begin clock s)
   unfolding begin andThen done weightIn weight
   goes-begin clock s = let g = goes-choose true clock (withCore (beginning clock (s .core)) s) in
       record { trail = act (Acts.opens clock s) (g .trail); few = omega (arith, g .few) }
 
   pub goes-token : (clock d a : ℕ) (s : Site) → (k → a ≤ 126) → (k → flight (s .core .doing .phase) ≡ false)
-      → Goes k calm s calm (token clock d a s)
+      → Goes k started calm s calm (token clock d a s)
   unfolding token
   goes-token clock d a s h f =
-      by (Goes k calm s calm) _ _ _
-      (λ e. by (Goes k calm s calm) _ _ _ (λ e. goes-still calm s)
-      (λ n. by (Goes k calm s calm) _ _ _ (λ e. goes-after (Acts.lets-go s f) (goes-begin clock s))
-      (λ m. by (Goes k calm s calm) _ _ _
+      by (Goes k started calm s calm) _ _ _
+      (λ e. by (Goes k started calm s calm) _ _ _ (λ e. goes-still calm s)
+      (λ n. by (Goes k started calm s calm) _ _ _ (λ e. goes-after (Acts.lets-go s f) (goes-begin clock s))
+      (λ m. by (Goes k started calm s calm) _ _ _
       (λ e. goes-after (Acts.lets-go s f)
       (goes-after (Acts.admits a s h (false-same _ _ n) (true-same _ _ e)) (goes-begin clock _)))
       (λ e. goes-after (Acts.notes a s h (false-same _ _ n) (false-same _ _ m) (false-same _ _ e))
@@ -117,13 +119,13 @@ module _ (k : Type 0) where
 
   -- ---- a request's end
   goes-ended : (x : Phase) (o : Ending) (l : List ℕ) (clock : ℕ) (s : Site) → (k → s .core .doing .phase ≡ x)
-      → (k → Closing x o l) → Goes k calm s calm (ended o l clock s)
+      → (k → Closing x o l) → Goes k started calm s calm (ended o l clock s)
   unfolding ended close closeOf andThen done weightIn weight
   goes-ended x o l clock s e c =
       let g = goes-choose false clock (close o l s .site) in
       record { trail = act (Acts.closes _ x o l s refl e c) (g .trail); few = omega (arith, g .few) }
 
-  goes-givenUp : (s : Site) → (k → s .core .doing .phase ≡ Awaited) → Goes k calm s calm (givenUp s)
+  goes-givenUp : (s : Site) → (k → s .core .doing .phase ≡ Awaited) → Goes k started calm s calm (givenUp s)
   unfolding givenUp close closeOf over andThen done weightIn weight
   goes-givenUp s e =
       record {
@@ -132,14 +134,15 @@ module _ (k : Type 0) where
         few = omega arith;
       }
 
-  goes-retry : (clock : ℕ) (s : Site) → (k → s .core .doing .phase ≡ Awaited) → Goes k calm s calm (retry clock s)
+  goes-retry : (clock : ℕ) (s : Site) → (k → s .core .doing .phase ≡ Awaited)
+      → Goes k started calm s calm (retry clock s)
   unfolding retry again againOf againEvents done weightIn weight
   goes-retry clock s e =
-      by (Goes k calm s calm) _ _ _ (λ h. goes-ended Awaited _ [] clock s e (λ z. Acts.lost))
+      by (Goes k started calm s calm) _ _ _ (λ h. goes-ended Awaited _ [] clock s e (λ z. Acts.lost))
       (λ h. record { trail = act (Acts.repeats _ s refl e (false-less _ _ h)) stop; few = omega arith })
 
   goes-concluded : (clock : ℕ) (x : List ℕ) (v : Verdict) (s : Site) → (k → s .core .doing .phase ≡ Awaited)
-      → (k → Lawful x v) → Goes k calm s calm (concluded clock x v s)
+      → (k → Lawful x v) → Goes k started calm s calm (concluded clock x v s)
   unfolding concluded statusBy
   goes-concluded clock x (Plausible n) s e l =
       goes-ended Awaited _ x clock s e (λ z. Acts.replied n x (l z .status) (l z .low) (l z .short))
@@ -147,13 +150,13 @@ module _ (k : Type 0) where
   goes-concluded clock x Foreign s e l = goes-givenUp s e
 
   pub goes-awaited : (clock : ℕ) (octets : List ℕ) (r : Reading) (s : Site) → (k → read octets ≡ r)
-      → (k → s .core .doing .phase ≡ Awaited) → Goes k calm s calm (awaitedRead clock octets r s)
+      → (k → s .core .doing .phase ≡ Awaited) → Goes k started calm s calm (awaitedRead clock octets r s)
   unfolding awaitedRead
   goes-awaited clock octets (Unread n) s i e = goes-retry clock s e
   goes-awaited clock octets (Read f p) s i e = goes-concluded clock _ _ s e (λ z. lawful-judged octets f p _ _ (i z))
 
   pub goes-sent : (x : Phase) (clock : ℕ) (s : Site) → (k → s .core .doing .phase ≡ x)
-      → Goes k calm s calm (sentIn x clock s)
+      → Goes k started calm s calm (sentIn x clock s)
   unfolding sentIn flight
   goes-sent Idle clock s e = goes-still calm s
   goes-sent Awaited clock s e = goes-still calm s
@@ -162,7 +165,7 @@ module _ (k : Type 0) where
   goes-sent ToSelf clock s e = goes-after (Acts.lets-go s (λ z. ap flight (e z))) (goes-begin clock s)
 
   pub goes-slot : (x : Phase) (clock : ℕ) (s : Site) → (k → s .core .doing .phase ≡ x)
-      → Goes k calm s calm (slotIn x clock s)
+      → Goes k started calm s calm (slotIn x clock s)
   unfolding slotIn
   goes-slot Idle clock s e = goes-still calm s
   goes-slot Awaited clock s e = goes-retry clock s e
@@ -171,14 +174,15 @@ module _ (k : Type 0) where
   goes-slot ToSelf clock s e = goes-still calm s
 
 -- ---- the answering side
-trail-answers : {l : List Event} (s : Site) → Answers (responder (s .core)) l → Trail Any calm s l calm s
+trail-answers : {started : List ℕ} {l : List Event} (s : Site) → Answers (responder (s .core)) l
+    → Trail Any started calm s l calm s
 trail-answers s none = stop
 trail-answers s (replied o l e a) = act (Acts.replies o s) (trail-answers s a)
 trail-answers s (shown h d l a) = act (Acts.shows any h d s) (trail-answers s a)
 
 -- ---- a call that is carried out; b says whether it may file
 pub record Carried (b : Bool) (w : World) (d : Called) : Type 0 where
-  pub trail : Trail Any calm (w .site) (d .events) calm (d .world .site)
+  pub trail : Trail Any (w .started) calm (w .site) (d .events) calm (d .world .site)
   pub few : Spare b (d .events)
   pub started : d .world .started ≡ w .started
   pub memory : Memorable (w .memory) → Memorable (d .world .memory)
@@ -187,7 +191,7 @@ pub carried-nothing : (w : World) → Carried false w (nothing w)
 unfolding nothing weightIn
 carried-nothing w = record { trail = stop; few = light {l = []} (omega arith); started = refl; memory = λ m. m }
 
-carried-called : (d : Done) (w : World) → Goes Any calm (w .site) calm d → Carried false w (called d w)
+carried-called : (d : Done) (w : World) → Goes Any (w .started) calm (w .site) calm d → Carried false w (called d w)
 unfolding called withSite
 carried-called d w g = record { trail = g .trail; few = light (g .few); started = refl; memory = λ m. m }
 
@@ -215,7 +219,7 @@ module _ (clock : ℕ) (room : Bool) (high low octets : List ℕ) (u : length hi
       → flight (w .site .core .doing .phase) ≡ false → Carried false w (idle clock room high low x d w)
   unfolding idle
   carried-idle (Token a b) d w e f =
-      carried-called _ w (goes-token Any clock _ _ (w .site) (λ z. read-token octets a b d e) (λ z. f))
+      carried-called _ w (goes-token Any (w .started) clock _ _ (w .site) (λ z. read-token octets a b d e) (λ z. f))
   carried-idle Short d w e f = carried-nothing w
   carried-idle (Frame h) d w e f =
       carried-replying _ w (answering-answer _ _ _ room high low h d)
@@ -240,16 +244,19 @@ module _ (clock : ℕ) (room : Bool) (high low octets : List ℕ) (u : length hi
       → Carried false w (heard x clock room high low octets w)
   unfolding heard flight
   carried-heard Idle w e = carried-read _ w refl (ap flight e)
-  carried-heard Awaited w e = carried-called _ w (goes-awaited Any clock octets _ (w .site) (λ z. refl) (λ z. e))
+  carried-heard Awaited w e =
+      carried-called _ w (goes-awaited Any (w .started) clock octets _ (w .site) (λ z. refl) (λ z. e))
   carried-heard Sdn w e = carried-nothing w
   carried-heard Check w e = carried-check w (ap flight e)
   carried-heard ToSelf w e = carried-nothing w
 
-pub carried-sent : (clock : ℕ) (w : World) → Carried false w (called (sentIn (w .site .core .doing .phase) clock (w .site)) w)
-carried-sent clock w = carried-called _ w (goes-sent Any _ clock (w .site) (λ z. refl))
+pub carried-sent : (clock : ℕ) (w : World)
+    → Carried false w (called (sentIn (w .site .core .doing .phase) clock (w .site)) w)
+carried-sent clock w = carried-called _ w (goes-sent Any (w .started) _ clock (w .site) (λ z. refl))
 
-pub carried-slot : (clock : ℕ) (w : World) → Carried false w (called (slotIn (w .site .core .doing .phase) clock (w .site)) w)
-carried-slot clock w = carried-called _ w (goes-slot Any _ clock (w .site) (λ z. refl))
+pub carried-slot : (clock : ℕ) (w : World)
+    → Carried false w (called (slotIn (w .site .core .doing .phase) clock (w .site)) w)
+carried-slot clock w = carried-called _ w (goes-slot Any (w .started) _ clock (w .site) (λ z. refl))
 
 -- ---- reset
 drain-none : (n m : ℕ) (l : Left Queue) → n ≡ l .answer .unconfirmed → drain n m l .answer .unconfirmed ≡ 0
@@ -257,18 +264,18 @@ unfolding drain confirm
 drain-none zero m l e = sym e
 drain-none (suc n) m l e = drain-none n 0 _ (fewer n (l .answer) e)
 
-module _ (k : Type 0) where
+module _ (k : Type 0) (started : List ℕ) where
   halts : (b : Bool) (s t : Site) (l : List Event) → flight (s .core .doing .phase) ≡ b
-      → Trail k (clearing (countOf High (s .core)) (countOf Low (s .core))) s l calm t
-      → Trail k halting s (broken (s .core .doing .phase) ++ l) calm t
+      → Trail k started (clearing (countOf High (s .core)) (countOf Low (s .core))) s l calm t
+      → Trail k started halting s (broken (s .core .doing .phase) ++ l) calm t
   halts true s t l e i = rw (broken-by (s .core .doing .phase) ∙ pick-true _ _ e) (act (Acts.breaks s e) i)
   halts false s t l e i = rw (broken-by (s .core .doing .phase) ∙ pick-false _ _ e) (move (Acts.spares s e) i)
 
   clears-high : (n a b : ℕ) (s t : Site) (l : List Event) → n ≡ s .core .high .unconfirmed
       → ((c : ℕ)
-      → Trail k (clearing c b)
+      → Trail k started (clearing c b)
       (filled High (drain n a (left (s .core .high) (s .high .row) (s .high .area))) s) l calm t)
-      → Trail k (clearing a b) s (dismissed High n a (s .core .high) ++ l) calm t
+      → Trail k started (clearing a b) s (dismissed High n a (s .core .high) ++ l) calm t
   unfolding dismissed drain confirm withRows withCore withQueue queueOf rowsOf
   clears-high zero a b s t l e i = i a
   clears-high (suc n) a b s t l e i =
@@ -276,23 +283,23 @@ module _ (k : Type 0) where
 
   clears-low : (n a b : ℕ) (s t : Site) → n ≡ s .core .low .unconfirmed
       → ((c : ℕ)
-      → Trail k (clearing a c) (filled Low (drain n b (left (s .core .low) (s .low .row) (s .low .area))) s)
+      → Trail k started (clearing a c) (filled Low (drain n b (left (s .core .low) (s .low .row) (s .low .area))) s)
       [] calm t)
-      → Trail k (clearing a b) s (dismissed Low n b (s .core .low)) calm t
+      → Trail k started (clearing a b) s (dismissed Low n b (s .core .low)) calm t
   unfolding dismissed drain confirm withRows withCore withQueue queueOf rowsOf
   clears-low zero a b s t e i = i b
   clears-low (suc n) a b s t e i =
       act (Acts.clears-low a b s (omega arith)) (clears-low n a 0 _ t (fewer n (s .core .low) e) i)
 
-  pub trail-resetting : (w : World) → (k → member (w .started) (w .site .core .ts .0) ≡ true)
-      → Trail k calm (w .site) (resetting w .events) calm (resetting w .world .site)
-  unfolding resetting freshWorld dismissal drained queueOf rowsOf withRows withCore withQueue
-  trail-resetting w e =
-      act (Acts.restarts (w .site))
-      (halts _ (w .site) _ _ refl
-      (clears-high _ _ _ (w .site) _ _ refl
-      (λ a. clears-low _ _ _ (filled High (drained High (w .site)) (w .site)) _ refl
-      (λ b. move (Acts.renews a b (w .started) _ e (drain-none _ _ _ refl) (drain-none _ _ _ refl)) stop))))
+pub trail-resetting : (k : Type 0) (w : World) → (k → member (w .started) (w .site .core .ts .0) ≡ true)
+    → Trail k (w .started) calm (w .site) (resetting w .events) calm (resetting w .world .site)
+unfolding resetting freshWorld dismissal drained queueOf rowsOf withRows withCore withQueue
+trail-resetting k w e =
+    act (Acts.restarts (w .site))
+    (halts k (w .started) _ (w .site) _ _ refl
+    (clears-high k (w .started) _ _ _ (w .site) _ _ refl
+    (λ a. clears-low k (w .started) _ _ _ (filled High (drained High (w .site)) (w .site)) _ refl
+    (λ b. move (Acts.renews a b _ e (drain-none _ _ _ refl) (drain-none _ _ _ refl)) stop))))
 
 reset-rest : (w : World) → (resetting w .world .started ≡ w .started) × Memorable (resetting w .world .memory)
 unfolding resetting freshWorld forgotten
