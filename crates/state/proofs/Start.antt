@@ -127,40 +127,33 @@ orderly-fresh t ts masters points high low s u v g a b c d =
       memory = record { source = omega arith; reply = omega arith };
     }
 
+-- what start gave, with the rows that are lent
+begun-is : (w : World) (b : Begun w)
+    → w ≡ worldOf (fresh (b .settings) (b .ts) (b .masters) (b .points) (b .high) (b .low)) (b .upper) (b .lower)
+begun-is w b = rw (b .world, start-given _ _ _ _ _ _ _ (b .started) .is) refl
+
 pub begun-orderly : (w : World) (b : Begun w) → Orderly (b .settings) (b .ts) w
 begun-orderly w b =
-    let g = start-given _ _ _ _ _ _ _ (b .started) in
-    rw (b .world, g .is)
+    rw (begun-is w b)
     (orderly-fresh (b .settings) (b .ts) (b .masters) (b .points) (b .high) (b .low) (b .state) (b .upper) (b .lower)
-    g (b .upperRow) (b .upperArea) (b .lowerRow) (b .lowerArea))
+    (start-given _ _ _ _ _ _ _ (b .started)) (b .upperRow) (b .upperArea) (b .lowerRow) (b .lowerArea))
 
 -- both queues are empty
-queues-fresh : (t : Settings) (ts : ℕ) (masters points : List ℕ) (high low : ℕ) (u v : Rows)
-    → (worldOf (fresh t ts masters points high low) u v .site .core .high ≡ emptyQueue high)
-    × (worldOf (fresh t ts masters points high low) u v .site .core .low ≡ emptyQueue low)
-unfolding worldOf stateOf freshWorld freshCore
-queues-fresh t ts masters points high low u v = (refl, refl)
-
 pub begun-queues : (w : World) (b : Begun w)
     → (w .site .core .high ≡ emptyQueue (b .high)) × (w .site .core .low ≡ emptyQueue (b .low))
-begun-queues w b =
-    let g = start-given _ _ _ _ _ _ _ (b .started) in
-    rw (b .world, g .is)
-    (queues-fresh (b .settings) (b .ts) (b .masters) (b .points) (b .high) (b .low) (b .upper) (b .lower))
+unfolding worldOf stateOf freshWorld freshCore
+begun-queues w b = rw (begun-is w b) (refl, refl)
 
 -- every mark is unknown, and the phase is Idle
-marks-fresh : (t : Settings) (ts : ℕ) (masters points : List ℕ) (high low : ℕ) (u v : Rows)
-    → (worldOf (fresh t ts masters points high low) u v .site .marks ≡ replicate 127 UNKNOWN)
-    × (worldOf (fresh t ts masters points high low) u v .site .core .doing .phase ≡ Idle)
-unfolding worldOf stateOf freshWorld freshCore
-marks-fresh t ts masters points high low u v = (refl, refl)
-
 pub begun-marks : (w : World) → Begun w
     → (w .site .marks ≡ replicate 127 UNKNOWN) × (w .site .core .doing .phase ≡ Idle)
-begun-marks w b =
-    let g = start-given _ _ _ _ _ _ _ (b .started) in
-    rw (b .world, g .is)
-    (marks-fresh (b .settings) (b .ts) (b .masters) (b .points) (b .high) (b .low) (b .upper) (b .lower))
+unfolding worldOf stateOf freshWorld freshCore
+begun-marks w b = rw (begun-is w b) (refl, refl)
+
+-- the set in force and the one kept for reset are the one that start was given
+pub begun-masters : (w : World) (b : Begun w) → (w .site .masters ≡ b .masters) × (w .started ≡ b .masters)
+unfolding worldOf stateOf freshWorld freshCore
+begun-masters w b = rw (begun-is w b) (refl, refl)
 
 -- "one that refuses states of its own making" is shut out: "in a run as demand 3 has it, no call is refused 29"
 pub begun-never-29 : (w : World) → Begun w → (l : List Call) → tells 29 (run l w .events) ≡ false
