@@ -1,7 +1,7 @@
 -- Laws of the set of masters and of the search, stated over the set. Assumes nothing.
 use Prim.Native.Nat.{ℕ, zero, suc, _+_, _-_, _*_, _%_, _≤_, _<_}
 use mathlib.Core.Bool.{Bool, true, false, true≢false}
-use mathlib.Core.List.{List}
+use mathlib.Core.List.{List, [], _∷_}
 use mathlib.Core.Logic.{_⊎_, inl, inr}
 use mathlib.Core.Path.{_≡_, refl, sym, ap, _∙_}
 use native.Mathlib.Decide.{ℕ-discrete}
@@ -17,9 +17,15 @@ pub member-enter : (l : List ℕ) (a : ℕ) → a < length l → member (enter l
 unfolding member enter
 member-enter l a h = same-true (getD-set-same l a 1 0 h)
 
-pub member-remove : (l : List ℕ) (a : ℕ) → a < length l → member (remove l a) a ≡ false
+-- whatever stands at a place and however long the list is, 0 laid there is read there
+zeroed : (l : List ℕ) (a : ℕ) → getD (set l a 0) a 0 ≡ 0
+zeroed [] a = refl
+zeroed (x ∷ l) zero = refl
+zeroed (x ∷ l) (suc a) = zeroed l a
+
+pub member-remove : (l : List ℕ) (a : ℕ) → member (remove l a) a ≡ false
 unfolding member remove
-member-remove l a h = same-false (λ e. zero-one (sym (getD-set-same l a 0 0 h) ∙ e))
+member-remove l a = same-false (λ e. zero-one (sym (zeroed l a) ∙ e))
   where
     zero-one : _≡_ {A = ℕ} 0 1 → ⊥
     zero-one q = omega arith
@@ -110,6 +116,9 @@ on-mod step a h g = by (less (a + step) 127) refl
       where
         above : 127 ≤ a + step → a + step - 127 ≡ (a + step) % 127
         above q = omega arith
+
+pub on-below : (step a : ℕ) → a < 127 → step < 127 → on step a < 127
+on-below step a h g = omega (arith, on-mod step a h g)
 
 -- the kth address upward
 steps-up : (k a : ℕ) → a < 127 → steps 1 k a ≡ (a + k) % 127

@@ -1,2 +1,4 @@
 pub mod Steps
+pub mod EitherOrder
 pub mod Laws
+pub mod RingSet
