@@ -9,6 +9,7 @@ use lib.ListN.{length}
 use Rattle.choice.specs.Choice.{pick}
 use Rattle.laid.specs.Laid.{laid}
 use Rattle.times.specs.declared.Settings.{Settings}
+use Rattle.ring.specs.Ring.{member}
 use Rattle.request.specs.declared.Record.{Record}
 use Rattle.rows.specs.Rows.{Left, left}
 use Rattle.state.specs.declared.Priority.{Priority}
@@ -35,6 +36,7 @@ use Rattle.state.proofs.Beside.{other, beside, Beside, submit-beside, c
 use Rattle.state.proofs.Never.{run-untold}
 use Rattle.state.proofs.Start.{begun-never-29}
 use Rattle.state.proofs.Demand3.{demand-3}
+use Rattle.state.proofs.Masters.{ts-stays}
 
 -- ---- calls in a row are a run, if each call does to the world that is meant by what is kept what the rules' call does
 pub chain-run : {K R : Type 0} {Makes : K → Call → List ℕ → R → K → Type 0} (meant : K → World)
@@ -258,3 +260,11 @@ pub caller-never-29 : {k m n : Keeps} {l : List Call} {c : Call} {out : List ℕ
 caller-never-29 {k = k} {l = l} {c = c} {out = out} s x y e =
     run-untold 29 (omega arith) l c (worldFor k) (begun-never-29 (worldFor k) (starts-begun k s) _)
     (sym (refused-by c out _) ∙ ap refusedBy (sym (caller-answered x y)) ∙ e)
+
+-- ---- "TS is never removed", of callers
+pub caller-ts-stays : {k m : Keeps} {l : List Call} (s : Starts k) → Chain Makes k l m
+    → member (m .state .masters .0) (s .ts) ≡ true
+unfolding worldFor worldOf starts-begun
+caller-ts-stays {k = k} {l = l} s c =
+    ap (λ (w : World). member (w .site .masters) (s .ts)) (caller-runs c)
+    ∙ ts-stays (worldFor k) (starts-begun k s) l

@@ -49,3 +49,4 @@ pub mod Submitted
 pub mod Confirmed
 pub mod Ledger
 pub mod Retries
+pub mod Masters

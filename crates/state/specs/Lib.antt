@@ -16,3 +16,4 @@ pub mod Holds
 pub mod Callers
 pub mod Submitted
 pub mod Retries
+pub mod Masters

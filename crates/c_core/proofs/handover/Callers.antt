@@ -1,6 +1,7 @@
 -- Calls of the C functions one after the other are a run, and what a caller in C is answered is what the run's calls
 -- tell. Assumes nothing.
 use Prim.Native.Nat.{ℕ}
+use mathlib.Core.Bool.{true}
 use mathlib.Core.Path.{_≡_, refl, sym, ap, _∙_}
 use mathlib.Core.List.{List, []}
 use native.Mathlib.Decide.{ℕ-discrete}
@@ -10,6 +11,7 @@ use Rattle.choice.proofs.Rules.{pick-true, pick-false, same-true, same-false, b
 use Rattle.laid.specs.Laid.{laid}
 use Rattle.request.specs.declared.Record.{Record}
 use Rattle.times.specs.Times.{standard}
+use Rattle.ring.specs.Ring.{member}
 use Rattle.state.specs.declared.Priority.{Priority}
 use Rattle.state.specs.declared.Priority.the-variants.{High, Low}
 use Rattle.state.specs.declared.Core.{Core}
@@ -30,6 +32,7 @@ use Rattle.state.proofs.Beside.{other, beside, Beside, submit-beside, collect-b
 use Rattle.state.proofs.Never.{run-untold}
 use Rattle.state.proofs.Start.{begun-never-29}
 use Rattle.state.proofs.Demand3.{demand-3}
+use Rattle.state.proofs.Masters.{ts-stays}
 use Rattle.state.proofs.Callers.{chain-run, accepted-beside, handed-beside, station-of, accepted-at}
 use Rattle.c_core.specs.declared.numbers.Numbers.{Numbers}
 use Rattle.c_core.specs.declared.numbers.FlatSettings.{FlatSettings}
@@ -395,3 +398,11 @@ pub caller-never-29 : {k m n : Keeps} {l : List Call} {c : Call} {out : List ℕ
 caller-never-29 {k = k} {m = m} {l = l} {c = c} {out = out} s x y e =
     run-untold 29 (omega arith) l c (worldFor k) (begun-never-29 (worldFor k) (starts-begun k s) _)
     (sym (refused-by (m .core) c out _) ∙ ap refusedBy (sym (caller-answered x y)) ∙ e)
+
+-- ---- "TS is never removed", of callers
+pub caller-ts-stays : {k m : Keeps} {l : List Call} (s : Starts k) → Chain Makes k l m
+    → member (m .masters) (s .ts) ≡ true
+unfolding worldFor stateFor stateIn worldOf starts-begun
+caller-ts-stays {k = k} {l = l} s c =
+    ap (λ (w : World). member (w .site .masters) (s .ts)) (caller-runs c)
+    ∙ ts-stays (worldFor k) (starts-begun k s) l
