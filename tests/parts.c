@@ -60,6 +60,41 @@ static void ask_ring(char **word)
     printf("%u %u\n", parts_next(masters, ts), parts_previous(masters, ts));
 }
 
+/* Makes one change, `e5` or `r7`; gives its address, and where the next one is or the end. */
+static uint8_t change(uint8_t *masters, char **at)
+{
+    char kind = *(*at)++;
+    unsigned long address = strtoul(*at, at, 10);
+    if ((kind != 'e' && kind != 'r') || address > UINT8_MAX || (**at != ',' && **at != '\0'))
+        stop("no list of changes");
+    *at += **at == ',';
+    (kind == 'e' ? parts_enter : parts_remove)(masters, (uint8_t)address);
+    return (uint8_t)address;
+}
+
+/* The masters after the changes, NS and PS. A place that no change names is as it was, one that is named holds 0 or 1. */
+static void ask_changes(char **word)
+{
+    uint8_t ts = octet(word[2]), before[ADDRESSES], named[UINT8_MAX + 1] = {0};
+    size_t count;
+    uint8_t *masters = lay(word[3], input_end, &count);
+    if (count != ADDRESSES)
+        stop("no list of 127 octets");
+    memcpy(before, masters, ADDRESSES);
+    for (char *at = word[4]; strcmp(word[4], "-") != 0 && *at != '\0';)
+        named[change(masters, &at)] = 1;
+    const char *comma = "";
+    for (unsigned address = 0; address < ADDRESSES; address++) {
+        if (named[address] ? masters[address] > 1 : masters[address] != before[address])
+            printf("place %u is %u ", address, masters[address]);
+        if (masters[address] == 1) {
+            printf("%s%u", comma, address);
+            comma = ",";
+        }
+    }
+    printf(" %u %u\n", parts_next(masters, ts), parts_previous(masters, ts));
+}
+
 static void ask_row(char **word)
 {
     lent.ts = octet(word[1]);
@@ -179,9 +214,9 @@ int main(void)
 {
     static const struct call calls[] = {
         {"standard", 1, ask_standard}, {"settings", 9, ask_settings}, {"left", 4, ask_left},
-        {"ring", 3, ask_ring},         {"row", 8, ask_row},           {"submit", 6, ask_submit},
-        {"confirm", 4, ask_confirm},   {"drain", 2, ask_drain},       {"collect", 1, ask_collect},
-        {"sound", 1, ask_sound},       {"look", 1, ask_look},
+        {"ring", 3, ask_ring},         {"changes", 5, ask_changes},   {"row", 8, ask_row},
+        {"submit", 6, ask_submit},     {"confirm", 4, ask_confirm},   {"drain", 2, ask_drain},
+        {"collect", 1, ask_collect},   {"sound", 1, ask_sound},       {"look", 1, ask_look},
     };
     input_end = fenced();
     row_end = fenced();

@@ -1,4 +1,4 @@
-/* The C functions of the crate `test_parts`: times and the search in the ring, and the calls on a row. Every call
+/* The C functions of the crate `test_parts`: times, the ring, and the calls on a row. Every call
  * answers for every input, by a number of document 01 where it refuses, and a refused call leaves lent memory as it was.
  *
  * A row has 7 octets a place: service (3 SDA, 4 SDN, 12 SRD), destination, its access point, the source's access point
@@ -36,6 +36,10 @@ uint8_t parts_left(uint32_t clock, uint32_t acceptance, uint32_t ttr);
 /* NS and PS of a station in a set of masters, 127 octets with 1 for each address in it; 255 for TS over 126. */
 uint8_t parts_next(const uint8_t *masters, uint8_t ts);
 uint8_t parts_previous(const uint8_t *masters, uint8_t ts);
+
+/* A station enters the set, or leaves it: its place holds 1, or 0. An address over 126 changes nothing. */
+void parts_enter(uint8_t *masters, uint8_t address);
+void parts_remove(uint8_t *masters, uint8_t address);
 
 /* Refusals 21, 29, 23 to 27. */
 struct parts_queue parts_submit(uint8_t ts, uint8_t places, uint8_t first, uint8_t confirmed, uint8_t unconfirmed,

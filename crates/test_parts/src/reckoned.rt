@@ -1,6 +1,7 @@
-// The station's times and the search in its ring for the tests outside Rattle, as C functions. Numbers go in and
+// The station's times and its ring for the tests outside Rattle, as C functions. Numbers go in and
 // structs of numbers come out; every input has an answer. Assumes nothing.
 ghost use mathlib.Core.Path.{_≡_};
+ghost use Rattle.ring.specs.Ring.{enter, remove};
 ghost use Rattle.times.specs.Times.{Small};
 ghost use Rattle.times.specs.declared.Reckoned.the-variants.{Refused, Reckon};
 ghost use Rattle.test_parts.specs.Parts.{settingsFrom, flatTimes, reckons, isLeft, nexts, previouses};
@@ -119,4 +120,19 @@ pub extern "C" fn parts_previous(masters: &[u8; 127], ts: u8) -> u8
         return 255;
     }
     ring::previous(masters, Address(ts)).0
+}
+
+// A station enters the set, or leaves it; an address that no station has changes nothing.
+#[no_mangle]
+pub extern "C" fn parts_enter(masters: &mut [u8; 127], a: u8)
+    ensures { λ _. ⌜ now (masters .exit) ≡ enter (now (masters .entry)) a ⌝ }
+{
+    ring::enter(masters, Address(a));
+}
+
+#[no_mangle]
+pub extern "C" fn parts_remove(masters: &mut [u8; 127], a: u8)
+    ensures { λ _. ⌜ now (masters .exit) ≡ remove (now (masters .entry)) a ⌝ }
+{
+    ring::remove(masters, Address(a));
 }

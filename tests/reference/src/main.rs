@@ -6,6 +6,7 @@ mod breaks;
 mod call;
 mod capture;
 mod cases;
+mod changes;
 mod draft;
 mod events;
 mod forged;
@@ -52,6 +53,7 @@ reference capture SEED KIND   a seeded capture: end, short, long, count or full
 reference sample NAME         a sample capture: document, run, damaged or cut
 reference times SEED COUNT    a script of times, with COUNT seeded settings
 reference rings SEED COUNT    a script of the search for NS and PS, with COUNT seeded sets of many masters
+reference changes SEED COUNT  a script of enterings and removals, with COUNT seeded pairs of lines for each law
 reference rows SEED CALLS     a script of calls on rows, with CALLS in lawful rows and as many in damaged ones
 reference parts               a script of times, rings or rows on standard input: its answers
 reference runs SEED CALLS     a replay script of many stations, with CALLS lines at least
@@ -88,6 +90,7 @@ fn run() -> Result<bool, String> {
         ["sample", name] => sample::of_name(name).ok_or(USAGE)?,
         ["times", seed, count] => lines(settings::times(number(seed)?, number(count)? as usize)),
         ["rings", seed, count] => lines(rings::rings(number(seed)?, number(count)? as usize)),
+        ["changes", seed, count] => lines(changes::changes(number(seed)?, number(count)? as usize)),
         ["rows", seed, calls] => lines(lends::rows(number(seed)?, number(calls)? as usize)),
         ["parts"] => {
             let mut parts = parts::Parts::default();

@@ -10,6 +10,7 @@
 //! | `settings TSET TQUI MINTSDR MAXTSDR TTD TTR RETRIES TS` | the refusal or 0, and TIMES |
 //! | `left CLOCK ACCEPTANCE TTR` | 1 if time is left, else 0 |
 //! | `ring TS MASTERS` | NS and PS, or 255 for each |
+//! | `changes LAW TS LIST CHANGES` | the masters once the changes were made to the list of 127 octets, NS and PS |
 //! | `row TS PLACES FIRST CONFIRMED UNCONFIRMED RECORDS AREA` | `row` |
 //! | `submit SERVICE DA DSAP SSAP DATA` | `ok PLACE QUEUE` or `refused N QUEUE` |
 //! | `confirm STATUS COUNT DATA`, `drain COUNT` | `ok 0 QUEUE` or `refused N QUEUE` |
@@ -73,6 +74,7 @@ impl Parts {
                 let masters = masters.split(',').map(number).collect::<Result<Vec<u8>, _>>()?;
                 Ok(say_ring(number(address)?, &masters))
             }
+            ["changes", _, address, list, changes] => say_changed(number(address)?, &unhex(list)?, changes),
             ["row", ref layout @ ..] => {
                 self.row = Row::new(layout_of(layout)?);
                 Ok("row".to_string())
@@ -158,6 +160,25 @@ fn say_ring(address: u8, masters: &[u8]) -> String {
     }
     let ring = Ring::of(masters);
     format!("{} {}", ring.next(address), ring.previous(address))
+}
+
+/// CHANGES: `e5` enters 5 and `r7` removes 7, joined by commas, `-` for none. Addresses that no station has count for
+/// nothing.
+fn say_changed(address: u8, list: &[u8], changes: &str) -> Result<String, String> {
+    let listed: Vec<u8> = (0..ADDRESSES).filter(|&place| list[usize::from(place)] == 1).collect();
+    let mut ring = Ring::of(&listed);
+    for change in changes.split(',').filter(|&change| change != "-") {
+        let (kind, station) = change.split_at(1);
+        let station: u8 = number(station)?;
+        match kind {
+            _ if station >= ADDRESSES => {}
+            "e" => ring.enter(station),
+            "r" => ring.leave(station),
+            _ => return Err(format!("no change: {change}")),
+        }
+    }
+    let masters: Vec<String> = ring.masters().iter().map(u8::to_string).collect();
+    Ok(format!("{} {} {}", masters.join(","), ring.next(address), ring.previous(address)))
 }
 
 fn say(outcome: Result<String, Refusal>) -> String {
