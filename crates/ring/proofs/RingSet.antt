@@ -39,19 +39,14 @@ unfolding previousOf
 previous-same l m ts h s = seek-same l m s 126 127 ts (omega arith) h
 
 -- ---- changes in a row
-entered-in : (l : List ℕ) (c a : ℕ) → a < length l → member (enter l c) a ≡ pick (same a c) true (member l a)
-entered-in l c a h = by (same a c) refl
+-- what a station sees of a change of c that says v of c and leaves the others
+seen : (f : List ℕ → ℕ → List ℕ) (v : Bool) (l : List ℕ) (c a : ℕ) → member (f l a) a ≡ v
+    → ((a ≡ c → ⊥) → member (f l c) a ≡ member l a) → member (f l c) a ≡ pick (same a c) v (member l a)
+seen f v l c a own other = by (same a c) refl
   where
-    by : (b : Bool) → same a c ≡ b → member (enter l c) a ≡ pick b true (member l a)
-    by true e = rw (← true-same a c e) (member-enter l a h) ∙ sym (pick-true _ _ refl)
-    by false e = member-enter-other l c a (false-same a c e) ∙ sym (pick-false _ _ refl)
-
-removed-in : (l : List ℕ) (c a : ℕ) → member (remove l c) a ≡ pick (same a c) false (member l a)
-removed-in l c a = by (same a c) refl
-  where
-    by : (b : Bool) → same a c ≡ b → member (remove l c) a ≡ pick b false (member l a)
-    by true e = rw (← true-same a c e) (member-remove l a) ∙ sym (pick-true _ _ refl)
-    by false e = member-remove-other l c a (false-same a c e) ∙ sym (pick-false _ _ refl)
+    by : (b : Bool) → same a c ≡ b → member (f l c) a ≡ pick b v (member l a)
+    by true e = rw (← true-same a c e) own ∙ sym (pick-true _ _ refl)
+    by false e = other (false-same a c e) ∙ sym (pick-false _ _ refl)
 
 -- whether a station is in the set after any changes is said by the last of them that names it, and without one by the set
 -- before
@@ -60,9 +55,11 @@ pub last-counts : (r : List Change) (l : List ℕ) (a : ℕ) → a < length l
 unfolding changed lastly enter remove
 last-counts [] l a h = refl
 last-counts (entering c ∷ r) l a h =
-    last-counts r (enter l c) a (omega (arith, h, length-set l c 1)) ∙ ap (lastly r a) (entered-in l c a h)
+    last-counts r (enter l c) a (omega (arith, h, length-set l c 1))
+    ∙ ap (lastly r a) (seen enter true l c a (member-enter l a h) (member-enter-other l c a))
 last-counts (removing c ∷ r) l a h =
-    last-counts r (remove l c) a (omega (arith, h, length-set l c 0)) ∙ ap (lastly r a) (removed-in l c a)
+    last-counts r (remove l c) a (omega (arith, h, length-set l c 0))
+    ∙ ap (lastly r a) (seen remove false l c a (member-remove l a) (member-remove-other l c a))
 
 -- so changes in two orders make the same set, and with it the same NS, if for each station they end alike
 pub same-changes : (r q : List Change) (l : List ℕ) → 127 ≤ length l
