@@ -104,22 +104,21 @@ grownBy y r x s = filled y (left (taking y r x s .answer .queue) (taking y r x s
 abbrev pub freedOf : Priority → Site → Site
 freedOf y s = withCore (withQueue y (freed (queueOf y (s .core))) (s .core)) s
 
--- ---- moves; k is what makes known what the rules do not test: that the phase fits the call, and what was read;
--- started is the set of masters as started, which a reset restores
-pub data Move (k : Type 0) (started : List ℕ) : Point → Site → Point → Site → Type 0 where
-  lets-go : (s : Site) → (k → flight (s .core .doing .phase) ≡ false) → Move k started calm s free s
-  rests : (s : Site) → Move k started free s calm (rest s)
+-- ---- moves; k is what makes known what the rules do not test: that the phase fits the call, and what was read
+pub data Move (k : Type 0) : Point → Site → Point → Site → Type 0 where
+  lets-go : (s : Site) → (k → flight (s .core .doing .phase) ≡ false) → Move k calm s free s
+  rests : (s : Site) → Move k free s calm (rest s)
   notes : (a : ℕ) (s : Site) → (k → a ≤ 126) → (a ≡ s .core .ts .0 → ⊥) → (a ≡ s .core .ps .0 → ⊥)
-      → (a ≡ s .core .stranger .0 → ⊥) → Move k started calm s calm (noted a s)
+      → (a ≡ s .core .stranger .0 → ⊥) → Move k calm s calm (noted a s)
   admits : (a : ℕ) (s : Site) → (k → a ≤ 126) → (a ≡ s .core .ts .0 → ⊥) → a ≡ s .core .stranger .0
-      → Move k started free s free (admit a s)
+      → Move k free s free (admit a s)
   drops : (s : Site) → (k → s .core .doing .phase ≡ Check) → 3 ≤ s .core .doing .sendings
-      → Move k started calm s passing (without s)
+      → Move k calm s passing (without s)
   spares : (s : Site) → flight (s .core .doing .phase) ≡ false
-      → Move k started halting s (clearing (countOf High (s .core)) (countOf Low (s .core))) s
-  renews : (a b : ℕ) (s : Site) → (k → member started (s .core .ts .0) ≡ true)
+      → Move k halting s (clearing (countOf High (s .core)) (countOf Low (s .core))) s
+  renews : (a b : ℕ) (masters : List ℕ) (s : Site) → (k → member masters (s .core .ts .0) ≡ true)
       → s .core .high .unconfirmed ≡ 0 → s .core .low .unconfirmed ≡ 0
-      → Move k started (clearing a b) s calm (anew started s)
+      → Move k (clearing a b) s calm (anew masters s)
 
 -- ---- acts
 pub data Act (k : Type 0) : Point → Site → Event → Point → Site → Type 0 where
@@ -159,9 +158,8 @@ pub data Act (k : Type 0) : Point → Site → Event → Point → Site → Type
       (filled Low (dismissing Low b s) s)
 
 -- ---- moves and acts in a row
-pub data Trail (k : Type 0) (started : List ℕ) : Point → Site → List Event → Point → Site → Type 0 where
-  stop : {p : Point} {s : Site} → Trail k started p s [] p s
-  move : {p q r : Point} {s t u : Site} {l : List Event} → Move k started p s q t → Trail k started q t l r u
-      → Trail k started p s l r u
-  act : {p q r : Point} {s t u : Site} {e : Event} {l : List Event} → Act k p s e q t → Trail k started q t l r u
-      → Trail k started p s (e ∷ l) r u
+pub data Trail (k : Type 0) : Point → Site → List Event → Point → Site → Type 0 where
+  stop : {p : Point} {s : Site} → Trail k p s [] p s
+  move : {p q r : Point} {s t u : Site} {l : List Event} → Move k p s q t → Trail k q t l r u → Trail k p s l r u
+  act : {p q r : Point} {s t u : Site} {e : Event} {l : List Event} → Act k p s e q t → Trail k q t l r u
+      → Trail k p s (e ∷ l) r u

@@ -32,19 +32,18 @@ use Rattle.state.proofs.Lasting.{filed-at, lasts-trail, lasts-run, last
 use Rattle.state.proofs.Weights.{files}
 
 -- ---- a trail with one act among the others: the trail before it, the act, and the trail behind it
-record Parted (started : List ℕ) (p : Point) (s : Site) (former : List Event) (e : Event) (latter : List Event)
-    (r : Point) (v : Site) : Type 0 where
+record Parted (p : Point) (s : Site) (former : List Event) (e : Event) (latter : List Event) (r : Point) (v : Site) :
+    Type 0 where
   from : Point
   to : Point
   found : Site
   left : Site
-  first : Trail Any started p s former from found
+  first : Trail Any p s former from found
   deed : Act Any from found e to left
-  rest : Trail Any started to left latter r v
+  rest : Trail Any to left latter r v
 
-parted-moved : {started : List ℕ} {p q r : Point} {s t v : Site} {former latter : List Event} {e : Event}
-    → Move Any started p s q t
-    → Parted started q t former e latter r v → Parted started p s former e latter r v
+parted-moved : {p q r : Point} {s t v : Site} {former latter : List Event} {e : Event} → Move Any p s q t
+    → Parted q t former e latter r v → Parted p s former e latter r v
 parted-moved m z =
     record {
       from = z .from;
@@ -56,9 +55,8 @@ parted-moved m z =
       rest = z .rest;
     }
 
-parted-acted : {started : List ℕ} {p q r : Point} {s t v : Site} {former latter : List Event} {e f : Event}
-    → Act Any p s f q t
-    → Parted started q t former e latter r v → Parted started p s (f ∷ former) e latter r v
+parted-acted : {p q r : Point} {s t v : Site} {former latter : List Event} {e f : Event} → Act Any p s f q t
+    → Parted q t former e latter r v → Parted p s (f ∷ former) e latter r v
 parted-acted a z =
     record {
       from = z .from;
@@ -70,9 +68,8 @@ parted-acted a z =
       rest = z .rest;
     }
 
-parted : {started : List ℕ} {p r : Point} {s v : Site} {l : List Event} (former latter : List Event) (e : Event)
-    → Trail Any started p s l r v
-    → l ≡ former ++ (e ∷ latter) → Parted started p s former e latter r v
+parted : {p r : Point} {s v : Site} {l : List Event} (former latter : List Event) (e : Event) → Trail Any p s l r v
+    → l ≡ former ++ (e ∷ latter) → Parted p s former e latter r v
 parted [] latter e stop i = absurd (cons-ne-nil _ _ (sym i))
 parted (f ∷ former) latter e stop i = absurd (cons-ne-nil _ _ (sym i))
 parted former latter e (move m z) i = parted-moved m (parted former latter e z i)
@@ -141,8 +138,8 @@ module _ (w : World) (b : Begun w) (before : List Call) (c : Call) (p : Priority
   ground = poise (b .settings) (b .ts) (orderly .small)
 
   -- behind the confirmation, what it left stays to the end of its call
-  now-parted : {started : List ℕ} {r : Point} {s v : Site} → Poised (b .settings) (b .ts) r s
-      → Parted started r s former (confirmed p n status k) latter calm v → Now n status k (queueAt p v) (rowsAt p v)
+  now-parted : {r : Point} {s v : Site} → Poised (b .settings) (b .ts) r s
+      → Parted r s former (confirmed p n status k) latter calm v → Now n status k (queueAt p v) (rowsAt p v)
   now-parted g z =
       let a = given-trail ground (z .first) g in
       let f = effect-acted (b .settings) (b .ts) p (z .deed) a in
@@ -153,7 +150,7 @@ module _ (w : World) (b : Begun w) (before : List Call) (c : Call) (p : Priority
       (never-within files (collects p n) latter (unfiled-uncollected p n)
       (unfiled-beside c (run before w .world) former latter (confirmed p n status k) e .1)))
 
-  now-course : {b : Bool} {d : Called} → Course (run before w .world) b d
+  now-course : {d : Called} → Course (run before w .world) c d
       → d .events ≡ former ++ (confirmed p n status k ∷ latter)
       → Now n status k (queueAt p (d .world .site)) (rowsAt p (d .world .site))
   unfolding refuse confirms

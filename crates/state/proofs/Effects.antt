@@ -107,7 +107,7 @@ pub record Left (y : Priority) (s s′ : Site) : Type 0 where
   pub queue : queueAt y s′ ≡ queueAt y s
   pub rows : rowsAt y s′ ≡ rowsAt y s
 
-pub left-moved : (y : Priority) {started : List ℕ} {p q : Point} {s s′ : Site} → Move Any started p s q s′ → Left y s s′
+pub left-moved : (y : Priority) {p q : Point} {s s′ : Site} → Move Any p s q s′ → Left y s s′
 unfolding rest admit without withCore withMasters withDoing withStranger withPs freshCore
 left-moved y (lets-go s h) = record { queue = refl; rows = refl }
 left-moved y (rests s) = record { queue = refl; rows = refl }
@@ -115,7 +115,7 @@ left-moved y (notes a s h i j k) = record { queue = refl; rows = refl }
 left-moved y (admits a s h i j) = record { queue = refl; rows = refl }
 left-moved y (drops s e h) = record { queue = refl; rows = refl }
 left-moved y (spares s h) = record { queue = refl; rows = refl }
-left-moved y (renews a b s h i j) = record { queue = refl; rows = refl }
+left-moved y (renews a b masters s h i j) = record { queue = refl; rows = refl }
 
 -- ---- acts on the queue itself, and on the other
 effect-sent : (y z : Priority) (s : Site) (t : ℕ) → 0 < queueAt z s .unconfirmed

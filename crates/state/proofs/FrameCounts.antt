@@ -70,8 +70,7 @@ fits-fresh : {ts : Address} {g : Doing} {h l : Queue} {u v : Rows} → flight (g
 unfolding unheard
 fits-fresh e = rested e (record { agree = agree-unknown; nothing = refl })
 
-stands-moved : {started : List ℕ} {p q : Point} {s s′ : Site} → Move Any started p s q s′ → (z : History)
-    → Stands p s z → Stands q s′ z
+stands-moved : {p q : Point} {s s′ : Site} → Move Any p s q s′ → (z : History) → Stands p s z → Stands q s′ z
 unfolding Stands rest admit without withCore withMasters withDoing withStranger withPs resting freshCore flight
 stands-moved (lets-go s h) z i = at-rest (h any) i
 stands-moved (rests s) z i = rested refl i
@@ -79,7 +78,7 @@ stands-moved (notes a s h j k l) z i = i
 stands-moved (admits a s h j k) z i = i
 stands-moved (drops s e h) z i = at-rest (ap flight (e any)) i
 stands-moved (spares s h) z i = i
-stands-moved (renews a b s h j k) z i = rw i (fits-fresh refl)
+stands-moved (renews a b masters s h j k) z i = rw i (fits-fresh refl)
 
 -- ---- a sending, for the first time and again
 turn-first : {y : Priority} {n : ℕ} {o : List ℕ} {x : Pending} → x ≡ C.none → C.Turn y n o x

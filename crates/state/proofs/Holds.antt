@@ -56,8 +56,7 @@ Stands passing g b = b ≡ false
 Stands halting g b = flight (g .phase) ≡ b
 Stands (clearing m n) g b = b ≡ false
 
-stands-moved : {started : List ℕ} {p q : Point} {s s′ : Site} → Move Any started p s q s′ → (b : Bool)
-    → Stands p (s .core .doing) b
+stands-moved : {p q : Point} {s s′ : Site} → Move Any p s q s′ → (b : Bool) → Stands p (s .core .doing) b
     → Stands q (s′ .core .doing) b
 unfolding Stands rest admit without withCore withMasters withDoing withStranger withPs resting freshCore flight
 stands-moved (lets-go s e) b i = sym i ∙ e any
@@ -66,7 +65,7 @@ stands-moved (notes a s e f g h) b i = i
 stands-moved (admits a s e f g) b i = i
 stands-moved (drops s e h) b i = sym i ∙ ap flight (e any)
 stands-moved (spares s e) b i = sym i ∙ e
-stands-moved (renews m n s e f g) b i = sym i
+stands-moved (renews m n masters s e f g) b i = sym i
 
 stands-acted : {p q : Point} {s s′ : Site} {e : Event} → Act Any p s e q s′ → (b : Bool) → Stands p (s .core .doing) b
     → Meets e b × Stands q (s′ .core .doing) (holdAfter e b)

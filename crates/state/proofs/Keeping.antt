@@ -1,6 +1,5 @@
 -- What every move and every act keeps, every call and every run of calls keeps: the one induction. Assumes nothing.
 use Prim.Native.Nat.{ℕ}
-use mathlib.Core.Bool.{Bool}
 use mathlib.Core.Path.{_≡_, sym, ap, _∙_}
 use mathlib.Core.List.{List, [], _∷_, _++_}
 use Rattle.state.specs.World.{Site, World, What, Event, Called, accepted, begins, ends, sends, confirmed}
@@ -14,7 +13,7 @@ use Rattle.state.proofs.Walk.{Course, declined, carried, course}
 -- what is known of the site at each point, whatever was told
 pub record Ground : Type 1 where
   pub Given : Point → Site → Type 0
-  pub moved : {started : List ℕ} {p q : Point} {s t : Site} → Move Any started p s q t → Given p s → Given q t
+  pub moved : {p q : Point} {s t : Site} → Move Any p s q t → Given p s → Given q t
   pub acted : {p q : Point} {s t : Site} {e : Event} → Act Any p s e q t → Given p s → Given q t
 
 abbrev pub ungrounded : Ground
@@ -30,8 +29,7 @@ pub record Account (g : Ground) : Type 1 where
   pub more : (e : Event) (l : List Event) (h : History) → afterAll (e ∷ l) h ≡ afterAll l (after e h)
   pub Meets : Event → History → Type 0
   pub At : Point → Site → History → Type 0
-  pub moves : {started : List ℕ} {p q : Point} {s t : Site} → Move Any started p s q t → (h : History)
-      → g .Given p s → At p s h → At q t h
+  pub moves : {p q : Point} {s t : Site} → Move Any p s q t → (h : History) → g .Given p s → At p s h → At q t h
   pub acts : {p q : Point} {s t : Site} {e : Event} → Act Any p s e q t → (h : History) → g .Given p s → At p s h
       → Meets e h × At q t (after e h)
   pub refuses : (n : ℕ) (s : Site) (h : History) → At calm s h → Meets (refused n) h × At calm s (after (refused n) h)
@@ -66,8 +64,7 @@ module _ {g : Ground} (a : Account g) where
   unfolding Right
   kept-more h e l m k = record { right = (m, k .right); at = rw (a .more e l h) (k .at) }
 
-  pub kept-trail : {started : List ℕ} {p q : Point} {s t : Site} {l : List Event} → Trail Any started p s l q t
-      → (h : a .History) → g .Given p s
+  pub kept-trail : {p q : Point} {s t : Site} {l : List Event} → Trail Any p s l q t → (h : a .History) → g .Given p s
       → a .At p s h → Kept h l q t
   kept-trail stop h z i = kept-none h _ _ i
   kept-trail (move m r) h z i = kept-trail r h (g .moved m z) (a .moves m h z i)
@@ -75,7 +72,7 @@ module _ {g : Ground} (a : Account g) where
       let k = a .acts m h z i in
       kept-more h _ _ (k .0) (kept-trail r _ (g .acted m z) (k .1))
 
-  pub kept-course : {b : Bool} {w : World} {d : Called} → Course w b d → (h : a .History) → g .Given calm (w .site)
+  pub kept-course : {c : Call} {w : World} {d : Called} → Course w c d → (h : a .History) → g .Given calm (w .site)
       → a .At calm (w .site) h → Kept h (d .events) calm (d .world .site)
   unfolding refuse
   kept-course {w = w} (declined n) h z i =
@@ -84,14 +81,13 @@ module _ {g : Ground} (a : Account g) where
   kept-course (carried c) h z i = kept-trail (c .trail) h z i
 
 -- ---- the ground
-pub given-trail : (g : Ground) {started : List ℕ} {p q : Point} {s t : Site} {l : List Event}
-    → Trail Any started p s l q t → g .Given p s
+pub given-trail : (g : Ground) {p q : Point} {s t : Site} {l : List Event} → Trail Any p s l q t → g .Given p s
     → g .Given q t
 given-trail g stop z = z
 given-trail g (move m r) z = given-trail g r (g .moved m z)
 given-trail g (act m r) z = given-trail g r (g .acted m z)
 
-pub given-course : (g : Ground) {b : Bool} {w : World} {d : Called} → Course w b d → g .Given calm (w .site)
+pub given-course : (g : Ground) {c : Call} {w : World} {d : Called} → Course w c d → g .Given calm (w .site)
     → g .Given calm (d .world .site)
 unfolding refuse
 given-course g (declined n) z = z

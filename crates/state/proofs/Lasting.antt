@@ -72,8 +72,7 @@ module _ (t : Settings) (ts : ℕ) (small : ts ≤ 126) (y : Priority) (f : Last
   record Stands (s : Site) (b : Bool) : Type 0 where
     fact : b ≡ true → f .Fact (queueAt y s) (rowsAt y s)
 
-  stands-moved : {started : List ℕ} {p q : Point} {s s′ : Site} → Move Any started p s q s′ → (b : Bool)
-      → Stands s b → Stands s′ b
+  stands-moved : {p q : Point} {s s′ : Site} → Move Any p s q s′ → (b : Bool) → Stands s b → Stands s′ b
   stands-moved m b i =
       let l = left-moved y m in
       record { fact = λ e. rw (l .queue, l .rows) (i .fact e) }
@@ -111,8 +110,7 @@ module _ (t : Settings) (ts : ℕ) (small : ts ≤ 126) (y : Priority) (f : Last
   stands-now s h = record { fact = λ e. h }
 
   -- ---- through moves and acts
-  pub lasts-trail : {started : List ℕ} {p q : Point} {s s′ : Site} {l : List Event} → Trail Any started p s l q s′
-      → Poised t ts p s
+  pub lasts-trail : {p q : Point} {s s′ : Site} {l : List Event} → Trail Any p s l q s′ → Poised t ts p s
       → FactAt s → never (f .ends) l ≡ true → FactAt s′
   lasts-trail m g h e = kept-trail lasting m true g (stands-now _ h) .at .fact (still-never (f .ends) _ e)
 

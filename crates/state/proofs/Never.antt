@@ -203,19 +203,19 @@ module _ (t : Settings) (ts : ℕ) (w : World) (o : Orderly t ts w) where
   spared-frame clock room high low octets out =
       by Spared _ _ _
       (λ e. let u = short-updates out (length high) (length low) w (true-same _ _ e) in spared-told
-      (told-carried (carried-heard clock room high low octets (u .0) (u .1) _ w refl)))
+      (told-carried (carried-heard clock room high low octets out (u .0) (u .1) _ w refl)))
       (λ e. spared-refuse _ w (never-29-in t ts w o out _ _))
 
   spared-sent : (clock out : ℕ) → Spared (Calls.sent clock out w)
   unfolding Calls.sent
   spared-sent clock out =
-      by Spared _ _ _ (λ e. spared-told (told-carried (carried-sent clock w)))
+      by Spared _ _ _ (λ e. spared-told (told-carried (carried-sent clock out w)))
       (λ e. spared-refuse _ w (never-29-in t ts w o out _ _))
 
   spared-slot : (clock out : ℕ) → Spared (Calls.slot clock out w)
   unfolding Calls.slot
   spared-slot clock out =
-      by Spared _ _ _ (λ e. spared-told (told-carried (carried-slot clock w)))
+      by Spared _ _ _ (λ e. spared-told (told-carried (carried-slot clock out w)))
       (λ e. spared-refuse _ w (never-29-in t ts w o out _ _))
 
   spared-call : (c : Call) → Spared (call c w)

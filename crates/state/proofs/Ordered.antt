@@ -1,6 +1,5 @@
 -- Every call keeps a station in order, whatever it is given. Assumes nothing.
 use Prim.Native.Nat.{ℕ}
-use mathlib.Core.Bool.{Bool}
 use mathlib.Core.List.{List, [], _∷_}
 use Rattle.times.specs.declared.Settings.{Settings}
 use Rattle.state.specs.World.{World, Called}
@@ -17,7 +16,7 @@ module _ (t : Settings) (ts : ℕ) where
   unfolding AptIn
   poised w o = record { firm = o .firm; apt = o .apt }
 
-  orderly-course : {b : Bool} {w : World} {d : Called} → Course w b d → Orderly t ts w → Poised t ts calm (d .world .site)
+  orderly-course : {c : Call} {w : World} {d : Called} → Course w c d → Orderly t ts w → Poised t ts calm (d .world .site)
       → Orderly t ts (d .world)
   unfolding refuse
   orderly-course (declined n) o g = o

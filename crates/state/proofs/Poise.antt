@@ -243,7 +243,7 @@ module _ (t : Settings) (ts : ℕ) (small : ts ≤ 126) where
   unfolding psWithout
   ps-small n l c e h = by (λ (m : ℕ). m ≤ 126) _ _ _ (λ i. previous-small l _ ts small e) (λ i. h)
 
-  pub other-next : (s : Site) → s .core .doing .phase ≡ Check → AptAt s → ns s ≡ s .core .ts .0 → ⊥
+  other-next : (s : Site) → s .core .doing .phase ≡ Check → AptAt s → ns s ≡ s .core .ts .0 → ⊥
   unfolding ns checking
   other-next s e a = a .check (ap checking e)
 
@@ -255,8 +255,7 @@ module _ (t : Settings) (ts : ℕ) (small : ts ≤ 126) where
   close-firm Low o x s h n l f = refirm f (f .high) (filed-confirmed _ _ (s .low) (f .low) _ _ x h n l)
 
   -- ---- moves
-  pub poised-moved : {started : List ℕ} {p q : Point} {s s′ : Site} → Move Any started p s q s′ → Poised t ts p s
-      → Poised t ts q s′
+  pub poised-moved : {p q : Point} {s s′ : Site} → Move Any p s q s′ → Poised t ts p s → Poised t ts q s′
   unfolding AptIn rest admit without withCore withMasters withDoing withStranger withPs resting freshCore
   poised-moved (lets-go s h) g = record { firm = g .firm; apt = any }
   poised-moved (rests s) g = record { firm = g .firm; apt = apt-idle _ _ _ _ _ _ _ _ _ }
@@ -279,9 +278,9 @@ module _ (t : Settings) (ts : ℕ) (small : ts ≤ 126) where
         apt = any;
       }
   poised-moved (spares s h) g = record { firm = g .firm; apt = any }
-  poised-moved (renews a b s h i j) g =
+  poised-moved (renews a b masters s h i j) g =
       record {
-        firm = readdress (g .firm) (previous-small _ _ ts small (g .firm .station)) (omega arith) (h any);
+        firm = readdress (g .firm) (previous-small masters _ ts small (g .firm .station)) (omega arith) (h any);
         apt = apt-idle _ _ _ _ _ _ _ _ _;
       }
 

@@ -69,8 +69,7 @@ unlow : {g : Doing} {h : Line} → g .served ≡ High → Knows g h
 unfolding isLow
 unlow e = record { low = λ i j. absurd (true≢false (sym j ∙ ap isLow e)) }
 
-placed-moved : {started : List ℕ} {p q : Point} {s s′ : Site} → Move Any started p s q s′ → (h : Line)
-    → Placed p s h → Placed q s′ h
+placed-moved : {p q : Point} {s s′ : Site} → Move Any p s q s′ → (h : Line) → Placed p s h → Placed q s′ h
 unfolding KnowsIn rest admit without withCore withMasters withDoing withStranger withPs resting freshCore flight
 placed-moved (lets-go s e) h p = record { count = p .count; knows = any }
 placed-moved (rests s) h p = record { count = p .count; knows = unflown refl }
@@ -78,7 +77,7 @@ placed-moved (notes a s i j k l) h p = record { count = p .count; knows = p .kno
 placed-moved (admits a s i j k) h p = record { count = p .count; knows = any }
 placed-moved (drops s e i) h p = record { count = p .count; knows = any }
 placed-moved (spares s e) h p = record { count = p .count; knows = any }
-placed-moved (renews a b s i j k) h p = record { count = p .count; knows = unflown refl }
+placed-moved (renews a b masters s i j k) h p = record { count = p .count; knows = unflown refl }
 
 placed-acted : {p q : Point} {s s′ : Site} {e : Event} → Act Any p s e q s′ → (h : Line) → Placed p s h
     → Meets e h × Placed q s′ (lineAfter e h)

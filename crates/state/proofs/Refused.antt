@@ -15,6 +15,7 @@ use Rattle.state.specs.Answering as A
 use Rattle.state.specs.Told.{telling, untold, adds}
 use Rattle.state.specs.Calls.{refuse, awaitedRead, sentIn, slotIn, resetting}
 use Rattle.state.specs.Runs.{Call, call}
+use Rattle.state.proofs.Cases.{Any, any}
 use Rattle.state.proofs.Acts.{Point, calm, Act, opens, serves, stops, quits, passes, repasses, repeats, closes}
 use Rattle.state.proofs.Acts.{takes, hands, replies, shows, restarts, breaks, clears-high, clears-low, Trail}
 use Rattle.state.proofs.Acts.{stop, move, act}
@@ -69,8 +70,7 @@ tame-act (breaks s h) l i = i
 tame-act (clears-high a b s h) l i = i
 tame-act (clears-low a b s h) l i = i
 
-tame : {k : Type 0} {started : List ℕ} {p q : Point} {s t : Site} {l : List Event} → Trail k started p s l q t
-    → refuses l ≡ false
+tame : {k : Type 0} {p q : Point} {s t : Site} {l : List Event} → Trail k p s l q t → refuses l ≡ false
 unfolding refuses
 tame stop = refl
 tame (move m r) = tame r
@@ -97,8 +97,7 @@ silent-act (breaks s h) l i = i
 silent-act (clears-high a b s h) l i = i
 silent-act (clears-low a b s h) l i = i
 
-silent : {started : List ℕ} {p q : Point} {s t : Site} {l : List Event} → Trail ⊥ started p s l q t
-    → telling l .indication ≡ None
+silent : {p q : Point} {s t : Site} {l : List Event} → Trail ⊥ p s l q t → telling l .indication ≡ None
 unfolding telling untold
 silent stop = refl
 silent (move m r) = silent r
@@ -108,33 +107,37 @@ pub record Calm (d : Done) : Type 0 where
   pub calm : refuses (d .events) ≡ false
   pub silent : telling (d .events) .indication ≡ None
 
-calmly : {p q : Point} {s : Site} {d : Done} → Goes ⊥ [] p s q d → Calm d
+-- whatever the set of masters is
+abbrev AnySet : List ℕ → Type 0
+AnySet l = Any
+
+calmly : {p q : Point} {s : Site} {d : Done} → Goes ⊥ AnySet p s q d → Calm d
 calmly g = record { calm = tame (g .trail); silent = silent (g .trail) }
 
 pub calm-token : (clock d a : ℕ) (s : Site) → Calm (token clock d a s)
-calm-token clock d a s = calmly (goes-token ⊥ [] clock d a s (λ z. absurd z) (λ z. absurd z))
+calm-token clock d a s = calmly (goes-token ⊥ AnySet clock d a s (λ z. absurd z) (λ z. absurd z) any (λ e n i. any))
 
 pub calm-awaited : (clock : ℕ) (octets : List ℕ) (r : Reading) (s : Site) → Calm (awaitedRead clock octets r s)
-calm-awaited clock octets r s = calmly (goes-awaited ⊥ [] clock octets r s (λ z. absurd z) (λ z. absurd z))
+calm-awaited clock octets r s = calmly (goes-awaited ⊥ AnySet clock octets r s (λ z. absurd z) (λ z. absurd z) any)
 
 pub calm-sent : (x : Phase) (clock : ℕ) (s : Site) → Calm (sentIn x clock s)
-calm-sent x clock s = calmly (goes-sent ⊥ [] x clock s (λ z. absurd z))
+calm-sent x clock s = calmly (goes-sent ⊥ AnySet x clock s (λ z. absurd z) any)
 
 pub calm-slot : (x : Phase) (clock : ℕ) (s : Site) → Calm (slotIn x clock s)
-calm-slot x clock s = calmly (goes-slot ⊥ [] x clock s (λ z. absurd z))
+calm-slot x clock s = calmly (goes-slot ⊥ AnySet x clock s (λ z. absurd z) any any)
 
 -- ---- a call that is carried out tells no refusal
 pub record Told (d : Called) : Type 0 where
   pub told : refuses (d .events) ≡ false
 
-pub told-carried : {b : Bool} {w : World} {d : Called} → Carried b w d → Told d
+pub told-carried : {c : Call} {w : World} {d : Called} → Carried c w d → Told d
 told-carried c = record { told = tame (c .trail) }
 
 pub told-resetting : (w : World) → Told (resetting w)
 told-resetting w = record { told = tame (trail-resetting ⊥ w (λ z. absurd z)) }
 
 -- ---- demand 1: "a refused call changes nothing"
-left-by : {b : Bool} {w : World} {d : Called} → Course w b d → refuses (d .events) ≡ true → d .world ≡ w
+left-by : {c : Call} {w : World} {d : Called} → Course w c d → refuses (d .events) ≡ true → d .world ≡ w
 unfolding refuse
 left-by (declined n) h = refl
 left-by (carried c) h = absurd (true≢false (sym h ∙ told-carried c .told))
@@ -143,8 +146,7 @@ pub refused-leaves : (c : Call) (w : World) → refuses (call c w .events) ≡ t
 refused-leaves c w h = left-by (course c w) h
 
 -- and nothing is to be sent, so that the output is as it was
-unsent-by : {b : Bool} {w : World} {d : Called} → Course w b d → refuses (d .events) ≡ true
-    → telling (d .events) .octets ≡ []
+unsent-by : {c : Call} {w : World} {d : Called} → Course w c d → refuses (d .events) ≡ true → telling (d .events) .octets ≡ []
 unfolding refuse telling untold adds
 unsent-by (declined n) h = refl
 unsent-by (carried c) h = absurd (true≢false (sym h ∙ told-carried c .told))

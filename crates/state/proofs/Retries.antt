@@ -122,8 +122,7 @@ module _ (p : Priority) (n : ℕ) where
   Stands halting s k = k ≡ 0
   Stands (clearing a b) s k = k ≡ 0
 
-  stands-moved : {started : List ℕ} {a b : Point} {s s′ : Site} → Move Any started a s b s′ → (k : ℕ)
-      → Stands a s k → Stands b s′ k
+  stands-moved : {a b : Point} {s s′ : Site} → Move Any a s b s′ → (k : ℕ) → Stands a s k → Stands b s′ k
   unfolding Stands rest admit without withCore withMasters withDoing withStranger withPs resting freshCore flight
   stands-moved (lets-go s e) k i = counted-none (e any) i
   stands-moved (rests s) k i = uncounted refl i
@@ -131,7 +130,7 @@ module _ (p : Priority) (n : ℕ) where
   stands-moved (admits a s e f g) k i = i
   stands-moved (drops s e h) k i = counted-none (ap flight (e any)) i
   stands-moved (spares s e) k i = i
-  stands-moved (renews a b s e f g) k i = uncounted refl i
+  stands-moved (renews a b masters s e f g) k i = uncounted refl i
 
   -- the first unconfirmed request of the queue y is sent, sent again and confirmed: it is this one, or not
   abbrev ours : Priority → Site → Bool

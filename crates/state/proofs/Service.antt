@@ -75,7 +75,7 @@ module _ (y : Priority) (t : Settings) (ts : ℕ) (small : ts ≤ 126) where
   lineAt s = line (queueBy y (s .core .high) (s .core .low))
 
   -- ---- moves leave both queues
-  lined-moved : {started : List ℕ} {p q : Point} {s s′ : Site} → Move Any started p s q s′ → lineAt s′ ≡ lineAt s
+  lined-moved : {p q : Point} {s s′ : Site} → Move Any p s q s′ → lineAt s′ ≡ lineAt s
   unfolding rest admit without withCore withMasters withDoing withStranger withPs freshCore
   lined-moved (lets-go s h) = refl
   lined-moved (rests s) = refl
@@ -83,7 +83,7 @@ module _ (y : Priority) (t : Settings) (ts : ℕ) (small : ts ≤ 126) where
   lined-moved (admits a s h i j) = refl
   lined-moved (drops s e h) = refl
   lined-moved (spares s h) = refl
-  lined-moved (renews a b s h i j) = refl
+  lined-moved (renews a b masters s h i j) = refl
 
   -- ---- and so do most acts
   lined-acted : {p q : Point} {s s′ : Site} {e : Event} → Act Any p s e q s′ → Poised t ts p s

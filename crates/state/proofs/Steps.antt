@@ -119,8 +119,7 @@ module _ (p k limit : ℕ) where
   handed-high b s f e c (gone z) = still-gone p k limit _ f z
 
   -- ---- moves and acts
-  stands-moved : {started : List ℕ} {x y : Point} {s s′ : Site} → Move Any started x s y s′ → (f : Fate)
-      → Stands x s f → Stands y s′ f
+  stands-moved : {x y : Point} {s s′ : Site} → Move Any x s y s′ → (f : Fate) → Stands x s f → Stands y s′ f
   unfolding Stands rest admit without withCore withMasters withDoing withStranger withPs resting freshCore flight
   stands-moved (lets-go s h) f i = rested p k limit (h any) i
   stands-moved (rests s) f i = at-rest p k limit refl i
@@ -128,7 +127,7 @@ module _ (p k limit : ℕ) where
   stands-moved (admits a s h j l) f i = i
   stands-moved (drops s e h) f i = rested p k limit (ap flight (e any)) i
   stands-moved (spares s h) f i = i
-  stands-moved (renews a b s h j l) f i = at-rest p k limit refl (emptied p limit j i)
+  stands-moved (renews a b masters s h j l) f i = at-rest p k limit refl (emptied p limit j i)
 
   -- an event that makes nothing of it
   told : {t : Settings} {g : Doing} {q : Queue} {row : List ℕ} (e : Event) (f : Fate) → meets p e f ≡ f

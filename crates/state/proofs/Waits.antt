@@ -122,8 +122,7 @@ served-record High s = refl
 served-record Low s = refl
 
 -- ---- moves and acts
-stands-moved : {started : List ℕ} {p q : Point} {s s′ : Site} → Move Any started p s q s′ → (b : Bool)
-    → Stands p (s .core .doing) b
+stands-moved : {p q : Point} {s s′ : Site} → Move Any p s q s′ → (b : Bool) → Stands p (s .core .doing) b
     → Stands q (s′ .core .doing) b
 unfolding Stands rest admit without withCore withMasters withDoing withStranger withPs resting freshCore flight
     checking awaiting
@@ -133,7 +132,7 @@ stands-moved (notes a s h j k l) b i = i
 stands-moved (admits a s h j k) b i = any
 stands-moved (drops s e h) b i = i .checks (ap checking (e any)) .0
 stands-moved (spares s h) b i = any
-stands-moved (renews m n s h j k) b i = unmindful refl refl refl
+stands-moved (renews m n masters s h j k) b i = unmindful refl refl refl
 
 stands-acted : (t : Settings) (ts : ℕ) {p q : Point} {s s′ : Site} {e : Event} → Act Any p s e q s′ → (b : Bool)
     → Poised t ts p s → Stands p (s .core .doing) b → Meets t e b × Stands q (s′ .core .doing) (sdnAfter e b)
