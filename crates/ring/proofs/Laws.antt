@@ -30,13 +30,18 @@ member-remove l a = same-false (λ e. zero-one (sym (zeroed l a) ∙ e))
     zero-one : _≡_ {A = ℕ} 0 1 → ⊥
     zero-one q = omega arith
 
+-- whatever is laid at a place, the others are in the set as they were
+member-set-other : (l : List ℕ) (a b m : ℕ) → (b ≡ a → ⊥) → member (set l a m) b ≡ member l b
+unfolding member
+member-set-other l a b m n = ap (λ (k : ℕ). same k 1) (getD-set-other l a b m 0 n)
+
 pub member-enter-other : (l : List ℕ) (a b : ℕ) → (b ≡ a → ⊥) → member (enter l a) b ≡ member l b
-unfolding member enter
-member-enter-other l a b n = ap (λ (k : ℕ). same k 1) (getD-set-other l a b 1 0 n)
+unfolding enter
+member-enter-other l a b n = member-set-other l a b _ n
 
 pub member-remove-other : (l : List ℕ) (a b : ℕ) → (b ≡ a → ⊥) → member (remove l a) b ≡ member l b
-unfolding member remove
-member-remove-other l a b n = ap (λ (k : ℕ). same k 1) (getD-set-other l a b 0 0 n)
+unfolding remove
+member-remove-other l a b n = member-set-other l a b _ n
 
 -- ---- the addresses of a search, in turn
 unfoldable pub steps : ℕ → ℕ → ℕ → ℕ
