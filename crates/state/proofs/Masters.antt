@@ -14,16 +14,14 @@ use Rattle.state.proofs.Start.{begun-orderly, begun-masters}
 
 -- ---- one call, of any world
 changed-course : {c : Call} {w : World} {d : Called} → Course w c d
-    → Changed (w .site .core .ts .0) (w .site .core .stranger .0) (w .started) (w .site .masters) c
-    (d .world .site .masters)
+    → Changed (w .site .core) (w .started) (w .site .masters) c (d .world .site .masters)
 unfolding refuse
 changed-course (declined n) = unchanged _
 changed-course (carried x) = x .set
 
 -- nothing else changes the set of masters
 pub call-changed : (c : Call) (w : World)
-    → Changed (w .site .core .ts .0) (w .site .core .stranger .0) (w .started) (w .site .masters) c
-    (call c w .world .site .masters)
+    → Changed (w .site .core) (w .started) (w .site .masters) c (call c w .world .site .masters)
 call-changed c w = changed-course (course c w)
 
 -- ---- the set kept for reset stays
@@ -47,11 +45,3 @@ module _ (w : World) (b : Begun w) (l : List Call) where
   pub ts-stays : member (run l w .world .site .masters) (b .ts) ≡ true
   ts-stays =
       let o = run-orderly (b .settings) (b .ts) l w (begun-orderly w b) in rw (o .firm .station) at (o .firm .among)
-
-  -- and what the next call makes of the set
-  pub masters-changed : (c : Call)
-      → Changed (b .ts) (run l w .world .site .core .stranger .0) (b .masters) (run l w .world .site .masters) c
-      (call c (run l w .world) .world .site .masters)
-  masters-changed c =
-      let o = run-orderly (b .settings) (b .ts) l w (begun-orderly w b) in
-      rw (o .firm .station, masters-kept) at (call-changed c (run l w .world))

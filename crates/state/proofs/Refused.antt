@@ -115,7 +115,7 @@ calmly : {p q : Point} {s : Site} {d : Done} → Goes ⊥ AnySet p s q d → Cal
 calmly g = record { calm = tame (g .trail); silent = silent (g .trail) }
 
 pub calm-token : (clock d a : ℕ) (s : Site) → Calm (token clock d a s)
-calm-token clock d a s = calmly (goes-token ⊥ AnySet clock d a s (λ z. absurd z) (λ z. absurd z) any (λ e n i. any))
+calm-token clock d a s = calmly (goes-token ⊥ AnySet clock d a s (λ z. absurd z) (λ z. absurd z) any (λ e n o i. any))
 
 pub calm-awaited : (clock : ℕ) (octets : List ℕ) (r : Reading) (s : Site) → Calm (awaitedRead clock octets r s)
 calm-awaited clock octets r s = calmly (goes-awaited ⊥ AnySet clock octets r s (λ z. absurd z) (λ z. absurd z) any)
@@ -124,7 +124,7 @@ pub calm-sent : (x : Phase) (clock : ℕ) (s : Site) → Calm (sentIn x clock s)
 calm-sent x clock s = calmly (goes-sent ⊥ AnySet x clock s (λ z. absurd z) any)
 
 pub calm-slot : (x : Phase) (clock : ℕ) (s : Site) → Calm (slotIn x clock s)
-calm-slot x clock s = calmly (goes-slot ⊥ AnySet x clock s (λ z. absurd z) any any)
+calm-slot x clock s = calmly (goes-slot ⊥ AnySet x clock s (λ z. absurd z) any (λ e h. any))
 
 -- ---- a call that is carried out tells no refusal
 pub record Told (d : Called) : Type 0 where

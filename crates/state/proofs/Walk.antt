@@ -1,7 +1,7 @@
 -- Every call, of any world, is refused whole or is a trail of moves and acts: the one walk through the rules. Assumes
 -- nothing.
 use Prim.Native.Nat.{ℕ, zero, suc, _+_, _≤_, _<_}
-use mathlib.Core.Bool.{Bool, true, false}
+use mathlib.Core.Bool.{Bool, true, false, true≢false}
 use mathlib.Core.Path.{_≡_, refl, sym, ap, _∙_}
 use mathlib.Core.List.{List, [], _∷_, _++_}
 use native.Mathlib.Omega.{arith}
@@ -26,6 +26,7 @@ use Rattle.state.specs.declared.Phase.{Phase}
 use Rattle.state.specs.declared.Phase.the-variants.{Idle, Awaited, Sdn, Check, ToSelf}
 use Rattle.state.specs.declared.Priority.{Priority}
 use Rattle.state.specs.declared.Priority.the-variants.{High, Low}
+use Rattle.state.specs.declared.Core.{Core}
 use Rattle.state.specs.declared.Choice.{Choice}
 use Rattle.state.specs.declared.Choice.the-variants.{Serve, PassOn}
 use Rattle.state.specs.declared.Outcome.{Outcome as Ending}
@@ -36,8 +37,8 @@ use Rattle.state.specs.World.{withQueue, queueOf, withCore, withMasters,
 use Rattle.state.specs.World.{withMemory}
 use Rattle.state.specs.Request.{sendEvents, send, againEvents, againOf, again, closeOf, close}
 use Rattle.state.specs.Pass.{ns, passEvents, pass, passAgain, without, recheck}
-use Rattle.state.specs.Hold.{choice, finish, chosen, choose, rest, beginning, begin, admit, token, ended, retry}
-use Rattle.state.specs.Hold.{over, givenUp, concluded}
+use Rattle.state.specs.Hold.{choice, finish, chosen, choose, resting, rest, beginning, begin, admit, token}
+use Rattle.state.specs.Hold.{ended, retry, over, givenUp, concluded}
 use Rattle.state.specs.Answering.{UPDATE, Answered}
 use Rattle.state.specs.Refusals.{lawless}
 use Rattle.state.specs.Calls as Calls
@@ -51,7 +52,7 @@ use Rattle.state.specs.Runs.Call.{submit, frame, sent, slot, reset, coll
 use Rattle.state.specs.Masters.{Changed, unchanged, entered, removed, restored}
 use Rattle.state.proofs.Cases.{by, Any, any, positive}
 use Rattle.state.proofs.Facts.{lawful-kept}
-use Rattle.state.proofs.Phases.{flight, broken-by}
+use Rattle.state.proofs.Phases.{flight, checking, broken-by}
 use Rattle.state.proofs.Acts.{Point, calm, free, choosing, passing, halting, clearing, Closing, Move, Act, Trail}
 use Rattle.state.proofs.Acts.{stop, move, act, filled}
 use Rattle.state.proofs.Acts as Acts
@@ -89,13 +90,13 @@ module _ (k : Type 0) (m : List ℕ → Type 0) where
   unfolding pass passEvents withCore done weightIn weight
   goes-pass s i = record { trail = act (Acts.passes s) stop; few = omega arith; set = i }
 
-  goes-recheck : (s : Site) → (k → s .core .doing .phase ≡ Check) → m (s .masters) → m (without s .masters)
-      → Goes k m calm s calm (recheck s)
+  goes-recheck : (s : Site) → (k → s .core .doing .phase ≡ Check) → m (s .masters)
+      → (3 ≤ s .core .doing .sendings → m (without s .masters)) → Goes k m calm s calm (recheck s)
   unfolding recheck passAgain withCore done weightIn weight
   goes-recheck s e i j =
       by (Goes k m calm s calm) _ _ _
       (λ h. record { trail = act (Acts.repasses s e (true-less _ _ h)) stop; few = omega arith; set = i })
-      (λ h. goes-after (Acts.drops s e (false-less _ _ h)) (goes-pass _ j))
+      (λ h. goes-after (Acts.drops s e (false-less _ _ h)) (goes-pass _ (j (false-less _ _ h))))
 
   goes-chosen : (starts : Bool) (clock : ℕ) (x : Choice) (s : Site) → choice starts (s .core) clock ≡ x → m (s .masters)
       → Goes k m (choosing starts) s calm (chosen x s)
@@ -120,7 +121,8 @@ module _ (k : Type 0) (m : List ℕ → Type 0) where
 
   pub goes-token : (clock d a : ℕ) (s : Site) → (k → a ≤ 126) → (k → flight (s .core .doing .phase) ≡ false)
       → m (s .masters)
-      → (d ≡ s .core .ts .0 → (a ≡ s .core .ts .0 → ⊥) → a ≡ s .core .stranger .0 → m (admit a s .masters))
+      → (d ≡ s .core .ts .0 → (a ≡ s .core .ts .0 → ⊥) → (a ≡ s .core .ps .0 → ⊥) → a ≡ s .core .stranger .0
+      → m (admit a s .masters))
       → Goes k m calm s calm (token clock d a s)
   unfolding token withCore
   goes-token clock d a s h f i j =
@@ -130,7 +132,7 @@ module _ (k : Type 0) (m : List ℕ → Type 0) where
       (λ o. by (Goes k m calm s calm) _ _ _
       (λ e. goes-after (Acts.lets-go s f)
       (goes-after (Acts.admits a s h (false-same _ _ n) (true-same _ _ e))
-      (goes-begin clock _ (j (true-same _ _ c) (false-same _ _ n) (true-same _ _ e)))))
+      (goes-begin clock _ (j (true-same _ _ c) (false-same _ _ n) (false-same _ _ o) (true-same _ _ e)))))
       (λ e. goes-after (Acts.notes a s h (false-same _ _ n) (false-same _ _ o) (false-same _ _ e))
       (goes-still calm _ i)))))
       (λ e. goes-still calm s i)
@@ -186,12 +188,13 @@ module _ (k : Type 0) (m : List ℕ → Type 0) where
   goes-sent ToSelf clock s e i = goes-after (Acts.lets-go s (λ z. ap flight (e z))) (goes-begin clock s i)
 
   pub goes-slot : (x : Phase) (clock : ℕ) (s : Site) → (k → s .core .doing .phase ≡ x) → m (s .masters)
-      → m (without s .masters) → Goes k m calm s calm (slotIn x clock s)
+      → ((k → s .core .doing .phase ≡ Check) → 3 ≤ s .core .doing .sendings → m (without s .masters))
+      → Goes k m calm s calm (slotIn x clock s)
   unfolding slotIn
   goes-slot Idle clock s e i j = goes-still calm s i
   goes-slot Awaited clock s e i j = goes-retry clock s e i
   goes-slot Sdn clock s e i j = goes-still calm s i
-  goes-slot Check clock s e i j = goes-recheck s e i j
+  goes-slot Check clock s e i j = goes-recheck s e i (j e)
   goes-slot ToSelf clock s e i j = goes-still calm s i
 
 -- ---- the answering side
@@ -212,7 +215,7 @@ filing (collect p) = true
 
 -- a set of masters that a call may leave
 abbrev Allowed : Call → World → List ℕ → Type 0
-Allowed c w l = Changed (w .site .core .ts .0) (w .site .core .stranger .0) (w .started) (w .site .masters) c l
+Allowed c w l = Changed (w .site .core) (w .started) (w .site .masters) c l
 
 pub record Carried (c : Call) (w : World) (d : Called) : Type 0 where
   pub trail : Trail Any calm (w .site) (d .events) calm (d .world .site)
@@ -243,15 +246,24 @@ carried-replying c a w t m =
       memory = λ z. m z .memory;
     }
 
--- after the pass's check is let go
+-- after the pass's check is let go: what may be made of the set then, might have been before
+allowed-rested : {c : Call} {x : Core} {started l r : List ℕ} → Changed (withDoing (resting (x .doing)) x) started l c r
+    → Changed x started l c r
+unfolding withDoing resting checking
+allowed-rested (unchanged c) = unchanged c
+allowed-rested (entered clock room high low octets out d a p e f g h i) =
+    entered clock room high low octets out d a p e f g h i
+allowed-rested (removed clock out e h) = absurd (true≢false (sym (ap checking e)))
+allowed-rested restored = restored
+
 carried-rested : {c : Call} {d : Called} (w : World) → flight (w .site .core .doing .phase) ≡ false
     → Carried c (withSite (rest (w .site)) w) d → Carried c w d
-unfolding rest withDoing withCore withSite
+unfolding rest withCore withSite
 carried-rested w f c =
     record {
       trail = move (Acts.lets-go _ (λ z. f)) (move (Acts.rests _) (c .trail));
       few = c .few;
-      set = c .set;
+      set = allowed-rested (c .set);
       started = c .started;
       memory = c .memory;
     }
@@ -281,7 +293,7 @@ module _ (clock : ℕ) (room : Bool) (high low octets : List ℕ) (out : ℕ) (u
   carried-read (Read x d) w e f = carried-idle x d w e f
 
   rest-unflown : (s : Site) → flight (rest s .core .doing .phase) ≡ false
-  unfolding rest withCore withDoing Rattle.state.specs.Hold.resting flight
+  unfolding rest withCore withDoing resting flight
   rest-unflown s = refl
 
   carried-check : (w : World) → flight (w .site .core .doing .phase) ≡ false
@@ -310,7 +322,8 @@ pub carried-slot : (clock out : ℕ) (w : World)
 unfolding without ns withMasters withCore
 carried-slot clock out w =
     carried-called _ _ w
-    (goes-slot Any (Allowed (slot clock out) w) _ clock (w .site) (λ z. refl) (unchanged _) (removed clock out))
+    (goes-slot Any (Allowed (slot clock out) w) _ clock (w .site) (λ z. refl) (unchanged _)
+    (λ e. removed clock out (e any)))
 
 -- ---- reset
 drain-none : (n m : ℕ) (l : Left Queue) → n ≡ l .answer .unconfirmed → drain n m l .answer .unconfirmed ≡ 0
