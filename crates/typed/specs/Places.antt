@@ -7,6 +7,7 @@ use lib.ListN.{replicate}
 use Rattle.choice.specs.Choice.{pick, same, said}
 use Rattle.typed.specs.Words.{words, word, equal}
 use Rattle.typed.specs.declared.digits.Number.{Number}
+use Rattle.typed.specs.declared.places.Pair.{Pair}
 use Rattle.typed.specs.Digits.{decimal, number, noNumber, dash}
 use Rattle.typed.specs.Lists.{list}
 
@@ -90,7 +91,11 @@ unfoldable pub access : List ℕ → Number
 access w = pick (said (dash w)) (number DASHED) (decimal w SHORT)
 
 -- ---- what fits its place
--- a line's first word is a call's, and it has as many words as that call
+-- a line's first word is a call's
+unfoldable pub called : List ℕ → List ℕ → Bool
+called l name = said (equal (word l 0) name)
+
+-- and it has as many words as that call
 unfoldable pub named : List ℕ → List ℕ → ℕ → Bool
 named l name n = pick (same (words l) n) (said (equal (word l 0) name)) false
 
@@ -98,6 +103,14 @@ named l name n = pick (same (words l) n) (said (equal (word l 0) name)) false
 unfoldable pub numbers : List ℕ → ℕ → ℕ → ℕ → Bool
 numbers l k zero most = true
 numbers l k (suc n) most = pick (said (decimal (word l k) most .good)) (numbers l (k + 1) n most) false
+
+-- "pairs of words, a name and its value": the pair of a name, if that is word k, has for its value the number that the
+-- next word is, of at most a greatest, and the word behind it is the next but one; "a pair may be left out and then has
+-- its standard value", and word k is behind it
+unfoldable pub pair : List ℕ → ℕ → List ℕ → ℕ → ℕ → Pair
+pair l k name most standard =
+    pick (said (equal (word l k) name)) (record { number = decimal (word l (k + 1)) most; behind = k + 2 })
+    (record { number = number standard; behind = k })
 
 -- a word is a list of masters, or of points
 unfoldable pub isMasters : List ℕ → Bool

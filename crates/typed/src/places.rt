@@ -6,8 +6,8 @@ ghost use Rattle.typed.specs.Words.{word};
 ghost use Rattle.typed.specs.Digits.{isOctets};
 ghost use Rattle.typed.specs.Places.{either as Places·either, queue as Places·queue, room as Places·room};
 ghost use Rattle.typed.specs.Places.{unserved as Places·unserved, service as Places·service};
-ghost use Rattle.typed.specs.Places.{access as Places·access, named as Places·named};
-ghost use Rattle.typed.specs.Places.{numbers as Places·numbers, isMasters, isPoints};
+ghost use Rattle.typed.specs.Places.{access as Places·access, called as Places·called, named as Places·named};
+ghost use Rattle.typed.specs.Places.{numbers as Places·numbers, pair as Places·pair, isMasters, isPoints};
 use super::digits;
 use super::digits::Number;
 use super::lists;
@@ -23,6 +23,12 @@ const DASHED: u32 = 256;
 
 // A line has at most so many characters.
 pub const LONGEST: usize = 4096;
+
+// What a name and its value give behind a line's words: the number, and which word stands behind the two.
+pub struct Pair {
+    pub number: Number,
+    pub behind: usize,
+}
 
 // The number of a word that is one of two.
 fn either(w: &[u8], first: &[u8], second: &[u8]) -> Number
@@ -93,6 +99,13 @@ pub fn access(w: &[u8]) -> Number
     digits::decimal(w, SHORT)
 }
 
+// Whether a line has a call's word.
+pub fn called(s: &[u8], name: &[u8]) -> bool
+    ensures { λ r. ⌜ r ≡ Places·called (now (s .entry)) (now (name .entry)) ⌝ }
+{
+    words::equal(words::word(s, 0), name)
+}
+
 // Whether a line has a call's word and count of words.
 pub fn named(s: &[u8], name: &[u8], n: usize) -> bool
     ensures { λ r. ⌜ r ≡ Places·named (now (s .entry)) (now (name .entry)) n ⌝ }
@@ -119,6 +132,24 @@ pub fn numbers(s: &[u8], k: usize, n: usize, most: u32) -> bool
         left -= 1;
     }
     true
+}
+
+// The pair of a name at word k, with a value of at most a greatest; a pair that is left out has its standard value.
+pub fn pair_at(s: &[u8], k: usize, name: &[u8], most: u32, standard: u32) -> Pair
+    requires { ⌜ k ≤ 98 ⌝ }
+    ensures { λ r. ⌜ r ≡ Places·pair (now (s .entry)) k (now (name .entry)) most standard ⌝ }
+    ensures { λ r. ⌜ r .behind ≤ k + 2 ⌝ }
+{
+    if words::equal(words::word(s, k), name) {
+        return Pair {
+            number: digits::decimal(words::word(s, k + 1), most),
+            behind: k + 2,
+        };
+    }
+    Pair {
+        number: digits::valued(standard),
+        behind: k,
+    }
 }
 
 // Whether a word of a line is a list of masters, and whether it is one of access points.
