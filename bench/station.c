@@ -23,7 +23,7 @@ struct rows {
 #define OUT out, sizeof out
 
 /* The standard settings but for one retry, so that a repeat can be measured. */
-static const struct cihlomet_settings settings = {20, 0, 20, 400, 1, 10000, 1};
+static const struct cihlomet_settings settings = {20, 0, 20, 400, 1, 10000, 1, 0};
 static size_t places, data_count;
 static uint8_t to, from;
 static struct cihlomet_station station;

@@ -16,7 +16,7 @@ enum { LOST_REPLY = 3, LATE_REPLY = 5 }; /* of station 7's replies, from 1: the 
 
 /* The standard settings but for one retry, which they do not have: the reply that is lost here is asked for again. */
 static const struct cihlomet_settings settings = {
-    .tset = 20, .tqui = 0, .min_tsdr = 20, .max_tsdr = 400, .ttd = 1, .ttr = 10000, .retries = 1};
+    .tset = 20, .tqui = 0, .min_tsdr = 20, .max_tsdr = 400, .ttd = 1, .ttr = 10000, .retries = 1, .tsdi = 0};
 
 /* A row of places and its data area. */
 struct queue {
@@ -221,11 +221,17 @@ static void sent(struct master *m)
     take(m, &answer, NULL);
 }
 
-/* TSL of document 01. */
+static uint32_t longer(uint32_t one, uint32_t other)
+{
+    return one > other ? one : other;
+}
+
+/* TSL, by the Tid1 that heeds min TSDR and TSDI. */
 static uint32_t slot_time(void)
 {
-    uint32_t tsm = 2 + 2 * settings.tset + settings.tqui, tid1 = 33 + tsm;
-    return 2 * settings.ttd + 11 + tsm + (settings.max_tsdr > tid1 ? settings.max_tsdr : tid1);
+    uint32_t tsm = 2 + 2 * settings.tset + settings.tqui;
+    uint32_t tid1 = longer(33 + tsm, longer(settings.min_tsdr, settings.tsdi));
+    return 2 * settings.ttd + 11 + tsm + longer(settings.max_tsdr, tid1);
 }
 
 /* Nobody sent anything: the slot time of the master that sent last expires. */

@@ -126,9 +126,11 @@ enum {
     CIHLOMET_MARK_UNKNOWN = 2 /* a frame count mark that is no bit */
 };
 
-/* A station's settings; `retries` is the retry limit. */
+/* A station's settings; `retries` is the retry limit. With TSM = 2 + 2 tset + tqui a request or token waits Tid1, the
+ * longest of 33 + TSM, min_tsdr and tsdi; one that follows an SDN of the same hold waits Tid2, the longer of 33 + TSM
+ * and max_tsdr. The slot time, which the caller keeps, is TSL = 2 ttd + 11 + TSM + the longer of max_tsdr and Tid1. */
 struct cihlomet_settings {
-    uint32_t tset, tqui, min_tsdr, max_tsdr, ttd, ttr, retries;
+    uint32_t tset, tqui, min_tsdr, max_tsdr, ttd, ttr, retries, tsdi;
 };
 
 /* What a station's decisions go by. acceptance and before are the clocks at which this hold and the one before
@@ -200,8 +202,9 @@ struct cihlomet_answer {
     struct cihlomet_core core;
 };
 
-/* The standard settings: Tset 20, Tqui 0, min TSDR 20, max TSDR 400, TTD 1, TTR 10000, and no retries: a request that
- * is lost is confirmed NA after one sending. A caller who wants retries sets them before it starts a station. */
+/* The standard settings: Tset 20, Tqui 0, min TSDR 20, max TSDR 400, TTD 1, TTR 10000, TSDI 0, and no retries: a
+ * request that is lost is confirmed NA after one sending. A caller who wants retries sets them before it starts a
+ * station. */
 struct cihlomet_settings cihlomet_standard(void);
 
 /* Starts a station with a set of masters, active access points and rows of `high` and `low` places: fills started,

@@ -12,7 +12,7 @@
 #include <string.h>
 #include <sys/mman.h>
 
-_Static_assert(sizeof(struct cihlomet_core) == 56, "no padding: a core is compared by its octets");
+_Static_assert(sizeof(struct cihlomet_core) == 60, "no padding: a core is compared by its octets");
 
 /* A buffer as lent, and a copy of what it held before the call. */
 struct part {
@@ -202,8 +202,8 @@ static struct cihlomet_settings read_settings(char *word)
 {
     struct cihlomet_settings settings;
     uint32_t *const setting[] = {&settings.tset, &settings.tqui, &settings.min_tsdr, &settings.max_tsdr,
-                                 &settings.ttd,  &settings.ttr,  &settings.retries};
-    for (size_t i = 0; i < 7; i++)
+                                 &settings.ttd,  &settings.ttr,  &settings.retries,  &settings.tsdi};
+    for (size_t i = 0; i < sizeof setting / sizeof setting[0]; i++)
         *setting[i] = next_number(i == 0 ? word : NULL, UINT32_MAX);
     return settings;
 }

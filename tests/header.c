@@ -16,24 +16,24 @@ AT(frame, refused, 0); AT(frame, form, 1); AT(frame, destination, 2); AT(frame, 
 AT(frame, from, 5); AT(frame, control, 6); AT(frame, start, 8); AT(frame, count, 16); SIZE(frame, 24);
 AT(written, refused, 0); AT(written, count, 8); SIZE(written, 16);
 AT(settings, tset, 0); AT(settings, tqui, 4); AT(settings, min_tsdr, 8); AT(settings, max_tsdr, 12);
-AT(settings, ttd, 16); AT(settings, ttr, 20); AT(settings, retries, 24); SIZE(settings, 28);
-AT(core, settings, 0); AT(core, acceptance, 28); AT(core, before, 32); AT(core, ts, 36); AT(core, ps, 37);
-AT(core, stranger, 38); AT(core, phase, 39); AT(core, served, 40); AT(core, sendings, 41); AT(core, sdn, 42);
-AT(core, begun, 43); AT(core, high_places, 44); AT(core, high_first, 45); AT(core, high_confirmed, 46);
-AT(core, high_unconfirmed, 47); AT(core, low_places, 48); AT(core, low_first, 49); AT(core, low_confirmed, 50);
-AT(core, low_unconfirmed, 51); AT(core, source, 52); AT(core, bit, 53); AT(core, length, 54); SIZE(core, 56);
-AT(station, core, 0); AT(station, masters, 56); AT(station, started, 183); AT(station, marks, 310);
-AT(station, points, 437); AT(station, memory, 501); SIZE(station, 756);
-AT(renewed, refused, 0); AT(renewed, core, 4); SIZE(renewed, 60);
-AT(accepted, refused, 0); AT(accepted, place, 1); AT(accepted, core, 4); SIZE(accepted, 60);
+AT(settings, ttd, 16); AT(settings, ttr, 20); AT(settings, retries, 24); AT(settings, tsdi, 28); SIZE(settings, 32);
+AT(core, settings, 0); AT(core, acceptance, 32); AT(core, before, 36); AT(core, ts, 40); AT(core, ps, 41);
+AT(core, stranger, 42); AT(core, phase, 43); AT(core, served, 44); AT(core, sendings, 45); AT(core, sdn, 46);
+AT(core, begun, 47); AT(core, high_places, 48); AT(core, high_first, 49); AT(core, high_confirmed, 50);
+AT(core, high_unconfirmed, 51); AT(core, low_places, 52); AT(core, low_first, 53); AT(core, low_confirmed, 54);
+AT(core, low_unconfirmed, 55); AT(core, source, 56); AT(core, bit, 57); AT(core, length, 58); SIZE(core, 60);
+AT(station, core, 0); AT(station, masters, 60); AT(station, started, 187); AT(station, marks, 314);
+AT(station, points, 441); AT(station, memory, 505); SIZE(station, 760);
+AT(renewed, refused, 0); AT(renewed, core, 4); SIZE(renewed, 64);
+AT(accepted, refused, 0); AT(accepted, place, 1); AT(accepted, core, 4); SIZE(accepted, 64);
 AT(collected, refused, 0); AT(collected, place, 1); AT(collected, service, 2); AT(collected, destination, 3);
 AT(collected, to, 4); AT(collected, from, 5); AT(collected, length, 6); AT(collected, status, 7);
-AT(collected, count, 8); AT(collected, core, 12); SIZE(collected, 68);
+AT(collected, count, 8); AT(collected, core, 12); SIZE(collected, 72);
 AT(indication, indicated, 0); AT(indication, control, 1); AT(indication, destination, 2); AT(indication, to, 3);
 AT(indication, source, 4); AT(indication, from, 5); AT(indication, start, 8); AT(indication, count, 16);
 SIZE(indication, 24);
 AT(answer, refused, 0); AT(answer, wait, 4); AT(answer, length, 8); AT(answer, indication, 16); AT(answer, core, 40);
-SIZE(answer, 96);
+SIZE(answer, 104);
 
 /* ---- Claims. */
 static unsigned held;
@@ -54,11 +54,11 @@ static struct cihlomet_station *s;
 enum { HIGH_PLACES = 3, LOW_PLACES = 2 };
 enum { TS = 3, NS = 9, PS = 20, LIFT = 7, POINT = 60, OWN_POINT = 62, INACTIVE = 5, NONE = 63 };
 enum { FDL_STATUS = 0x49, SRD_LOW_FIRST = 0x6C, SDN_LOW = 0x44, CODE = 15, FCB = 0x20, FCV = 0x10 };
-enum { TID1 = 80, TID2 = 405, CLOCK = 100000 };
+enum { TID1 = 91, TID2 = 405, CLOCK = 100000 };
 
 /* With these TSM is 47, and Tid1 and Tid2 as above. */
 static const struct cihlomet_settings settings = {
-    .tset = 21, .tqui = 3, .min_tsdr = 44, .max_tsdr = 405, .ttd = 6, .ttr = 7007, .retries = 2};
+    .tset = 21, .tqui = 3, .min_tsdr = 44, .max_tsdr = 405, .ttd = 6, .ttr = 7007, .retries = 2, .tsdi = 91};
 
 #define LENT(p) (p).at, (p).count
 #define ROWS LENT(high), LENT(high_data), LENT(low), LENT(low_data)
@@ -289,7 +289,7 @@ static const struct {
     {offsetof(struct cihlomet_settings, tset), 20, 255},    {offsetof(struct cihlomet_settings, tqui), 0, 43},
     {offsetof(struct cihlomet_settings, min_tsdr), 20, 405}, {offsetof(struct cihlomet_settings, max_tsdr), 44, 65465},
     {offsetof(struct cihlomet_settings, ttd), 0, 32536},    {offsetof(struct cihlomet_settings, ttr), 20, 16777215},
-    {offsetof(struct cihlomet_settings, retries), 0, 15},
+    {offsetof(struct cihlomet_settings, retries), 0, 15},   {offsetof(struct cihlomet_settings, tsdi), 0, 65465},
 };
 
 /* What start says to a setting of this number, and then a call to a core with it. */
@@ -492,7 +492,7 @@ static void standard_settings(void)
 {
     struct cihlomet_settings standard = cihlomet_standard();
     CLAIM(standard.tset == 20 && standard.tqui == 0 && standard.min_tsdr == 20 && standard.max_tsdr == 400);
-    CLAIM(standard.ttd == 1 && standard.ttr == 10000 && standard.retries == 0);
+    CLAIM(standard.ttd == 1 && standard.ttr == 10000 && standard.retries == 0 && standard.tsdi == 0);
     begin();
     CLAIM(start(standard, TS, HIGH_PLACES, LOW_PLACES).refused == 0);
     submit(true, CIHLOMET_SRD, LIFT, POINT, OWN_POINT);

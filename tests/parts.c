@@ -30,13 +30,13 @@ static void ask_standard(char **word)
 {
     (void)word;
     struct cihlomet_settings s = cihlomet_standard();
-    printf("%u %u %u %u %u %u %u\n", s.tset, s.tqui, s.min_tsdr, s.max_tsdr, s.ttd, s.ttr, s.retries);
+    printf("%u %u %u %u %u %u %u %u\n", s.tset, s.tqui, s.min_tsdr, s.max_tsdr, s.ttd, s.ttr, s.retries, s.tsdi);
 }
 
 static void ask_settings(char **word)
 {
     struct parts_times t = parts_reckon(wide(word[1]), wide(word[2]), wide(word[3]), wide(word[4]), wide(word[5]),
-                                        wide(word[6]), wide(word[7]), octet(word[8]));
+                                        wide(word[6]), wide(word[7]), wide(word[8]), octet(word[9]));
     printf("%u %u %u %u %u %u %u %u %u\n", t.refused, t.tsm, t.tid1, t.tid2, t.tsl, t.tto, t.reply, t.after_sdn,
            t.other);
 }
@@ -213,10 +213,10 @@ static void ask_look(char **word)
 int main(void)
 {
     static const struct call calls[] = {
-        {"standard", 1, ask_standard}, {"settings", 9, ask_settings}, {"left", 4, ask_left},
-        {"ring", 3, ask_ring},         {"changes", 5, ask_changes},   {"row", 8, ask_row},
-        {"submit", 6, ask_submit},     {"confirm", 4, ask_confirm},   {"drain", 2, ask_drain},
-        {"collect", 1, ask_collect},   {"sound", 1, ask_sound},       {"look", 1, ask_look},
+        {"standard", 1, ask_standard}, {"settings", 10, ask_settings}, {"left", 4, ask_left},
+        {"ring", 3, ask_ring},         {"changes", 5, ask_changes},    {"row", 8, ask_row},
+        {"submit", 6, ask_submit},     {"confirm", 4, ask_confirm},    {"drain", 2, ask_drain},
+        {"collect", 1, ask_collect},   {"sound", 1, ask_sound},        {"look", 1, ask_look},
     };
     input_end = fenced();
     row_end = fenced();

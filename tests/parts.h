@@ -28,7 +28,7 @@ struct parts_collected {
 
 /* Refusal 20. */
 struct parts_times parts_reckon(uint32_t tset, uint32_t tqui, uint32_t min_tsdr, uint32_t max_tsdr, uint32_t ttd,
-                                uint32_t ttr, uint32_t retries, uint8_t ts);
+                                uint32_t ttr, uint32_t retries, uint32_t tsdi, uint8_t ts);
 
 /* 1 if time is left, else 0. */
 uint8_t parts_left(uint32_t clock, uint32_t acceptance, uint32_t ttr);

@@ -9,11 +9,11 @@
 #include <stdio.h>
 #include <string.h>
 
-enum { LONGEST_LINE = 4096, MOST_WORDS = 13, MOST_PLACES = 64 };
+enum { LONGEST_LINE = 4096, MOST_WORDS = 15, MOST_PLACES = 64 };
 enum { ROW = MOST_PLACES * CIHLOMET_RECORD, AREA = MOST_PLACES * CIHLOMET_DATA };
 
-_Static_assert(sizeof(struct cihlomet_core) == 56, "no padding: a core is compared by its octets");
-_Static_assert(sizeof(struct cihlomet_station) == 756, "no padding: a station ends with its memory");
+_Static_assert(sizeof(struct cihlomet_core) == 60, "no padding: a core is compared by its octets");
+_Static_assert(sizeof(struct cihlomet_station) == 760, "no padding: a station ends with its memory");
 
 /* A queue's row and data area. */
 struct rows {
@@ -303,6 +303,25 @@ static void ask_start(const struct cihlomet_settings *settings, uint8_t ts, uint
     puts("ok");
 }
 
+/* The pairs behind a start's words, in their order; what is left out is standard. The words end with NULL. */
+static bool pairs_in(char **word, struct cihlomet_settings *settings)
+{
+    const struct {
+        const char *name;
+        uint32_t *value;
+        uint32_t standard;
+    } pairs[] = {{"tsdi", &settings->tsdi, cihlomet_standard().tsdi}};
+    for (size_t i = 0; i < sizeof pairs / sizeof pairs[0]; i++) {
+        *pairs[i].value = pairs[i].standard;
+        if (*word == NULL || strcmp(*word, pairs[i].name) != 0)
+            continue;
+        if (word[1] == NULL || !number_in(word[1], UINT32_MAX, pairs[i].value))
+            return false;
+        word += 2;
+    }
+    return *word == NULL;
+}
+
 static bool start(char **word)
 {
     struct cihlomet_settings settings;
@@ -318,7 +337,7 @@ static bool start(char **word)
     memset(offered->points, 0, sizeof offered->points);
     if (!number_in(word[8], UINT32_MAX, &ts) || !list_in(word[9], 126, false, offered->masters) ||
         !list_in(word[10], 62, true, offered->points) || !octet_in(word[11], 255, &places_high) ||
-        !octet_in(word[12], 255, &places_low))
+        !octet_in(word[12], 255, &places_low) || !pairs_in(word + 13, &settings))
         return false;
     ask_start(&settings, ts > 255 ? 255 : (uint8_t)ts, places_high, places_low);
     return true;
@@ -479,20 +498,22 @@ static bool show(char **word)
 /* ---- The script. */
 static const struct {
     const char *word;
-    size_t words;
+    size_t words, pairs;
     bool (*ask)(char **word);
-} calls[] = {{"start", 13, start}, {"submit", 7, submit},   {"frame", 6, frame}, {"sent", 2, sent},
-             {"slot", 2, slot},    {"collect", 2, collect}, {"reset", 1, reset}, {"show", 1, show}};
+} calls[] = {{"start", 13, 1, start}, {"submit", 7, 0, submit},   {"frame", 6, 0, frame}, {"sent", 2, 0, sent},
+             {"slot", 2, 0, slot},    {"collect", 2, 0, collect}, {"reset", 1, 0, reset}, {"show", 1, 0, show}};
 
 /* Splits a line at its spaces and asks it; false if it is no call, or there is no station to ask. */
 static bool ask(char *text)
 {
-    char *word[MOST_WORDS + 1];
+    char *word[MOST_WORDS + 2];
     size_t words = 0;
     for (char *w = strtok(text, " "); w != NULL && words <= MOST_WORDS; w = strtok(NULL, " "))
         word[words++] = w;
+    word[words] = NULL;
     for (size_t i = 0; words != 0 && i < sizeof calls / sizeof calls[0]; i++)
-        if (words == calls[i].words && strcmp(word[0], calls[i].word) == 0)
+        if (words >= calls[i].words && words <= calls[i].words + 2 * calls[i].pairs &&
+            strcmp(word[0], calls[i].word) == 0)
             return (started || calls[i].ask == start) && calls[i].ask(word);
     return false;
 }

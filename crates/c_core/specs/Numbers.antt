@@ -66,6 +66,7 @@ settingsIn s =
       ttd = record { 0 = s .ttd };
       ttr = record { 0 = s .ttr };
       retries = record { 0 = s .retries };
+      tsdi = record { 0 = s .tsdi };
     }
 
 unfoldable pub settingsOf : Settings → FlatSettings
@@ -78,6 +79,7 @@ settingsOf s =
       ttd = s .ttd .0;
       ttr = s .ttr .0;
       retries = s .retries .0;
+      tsdi = s .tsdi .0;
     }
 
 -- ---- the core and what the memory keeps, from numbers

@@ -30,6 +30,7 @@ pub struct FlatSettings {
     pub ttd: u32,
     pub ttr: u32,
     pub retries: u32,
+    pub tsdi: u32,
 }
 
 // The core of a station and what its memory keeps, as numbers. Phase is 0 Idle, 1 Reply awaited, 2 SDN going out, 3
@@ -181,6 +182,7 @@ pub fn settings_in(s: FlatSettings) -> Settings
         ttd: BitTime(s.ttd),
         ttr: BitTime(s.ttr),
         retries: Count(s.retries),
+        tsdi: BitTime(s.tsdi),
     }
 }
 
@@ -196,6 +198,7 @@ pub fn settings_of(s: Settings) -> FlatSettings
         ttd: s.ttd.0,
         ttr: s.ttr.0,
         retries: s.retries.0,
+        tsdi: s.tsdi.0,
     }
 }
 

@@ -42,7 +42,7 @@ frames = true
 -- times
 unfoldable pub times : Bool
 unfolding tests Clock.elapsed Clock.timeLeft Times.outside Times.tsm Times.tid1 Times.tid2 Times.tsl Times.tto
-    Times.tooLong Times.unruly Times.timesOf Times.reckoned Times.waitOf Times.standard
+    Times.tooLong Times.unrulyDelays Times.unruly Times.timesOf Times.reckoned Times.waitOf Times.standard
 times = true
 
 -- the ring, and rows of records

@@ -8,8 +8,10 @@ use Rattle.choice.specs.Choice.{pick, same}
 use Rattle.choice.proofs.Rules.{pick-false}
 use Rattle.frame.specs.declared.Address.{Address}
 use Rattle.times.specs.declared.Settings.{Settings}
-use Rattle.times.specs.declared.Sending.the-variants.{Reply, Other}
+use Rattle.times.specs.declared.Sending.the-variants.{Reply, AfterSdn, Other}
 use Rattle.times.specs.Times.{waitOf}
+use Rattle.times.specs.Heeding.{Heeds}
+use Rattle.times.proofs.Laws.{tid1-heeds}
 use Rattle.request.specs.declared.Record.{Record}
 use Rattle.request.specs.Record.{SDN}
 use Rattle.queue.specs.declared.Queue.{Queue}
@@ -218,6 +220,10 @@ reply-waits : (t : Settings) (o : List ℕ) (k : ℕ) (b : Bool) → Meets t (se
 unfolding ofSendings Goes
 reply-waits t o k b h = h
 
+heeds-other : (t : Settings) (b : Bool) (k : ℕ) → b ≡ false → k ≡ waitDue t b → Heeds t k
+unfolding waitDue waitOf
+heeds-other t b k e f = rw (f, pick-false AfterSdn Other e) (tid1-heeds t)
+
 -- the theorem: after a start and any calls, a request and a token have the wait that the last sending in the hold gives
 -- them, and a reply has min TSDR
 module _ (w : World) (b : Begun w) (l : List Call) (before after : List Event) where
@@ -239,3 +245,14 @@ module _ (w : World) (b : Begun w) (l : List Call) (before after : List Event) w
   pub waits-before-reply : (o : List ℕ) (wait : ℕ) → run l w .events ≡ before ++ (sends aReply o wait ∷ after)
       → wait ≡ waitOf (b .settings) Reply
   waits-before-reply o wait e = reply-waits _ o wait _ (paces-before _ e)
+
+  -- document 02, order 1: what follows no SDN of its hold heeds the line, the responder and the initiator: a request and
+  -- a token come no sooner than 33 + TSM, min TSDR and TSDI
+  pub request-heeds : (p : Priority) (n : ℕ) (o : List ℕ) (wait : ℕ)
+      → run l w .events ≡ before ++ (sends (aRequest p n) o wait ∷ after) → sdnLast before false ≡ false
+      → Heeds (b .settings) wait
+  request-heeds p n o wait e f = heeds-other (b .settings) _ wait f (waits-before-request p n o wait e)
+
+  pub token-heeds : (o : List ℕ) (wait : ℕ) → run l w .events ≡ before ++ (sends aToken o wait ∷ after)
+      → sdnLast before false ≡ false → Heeds (b .settings) wait
+  token-heeds o wait e f = heeds-other (b .settings) _ wait f (waits-before-token o wait e)

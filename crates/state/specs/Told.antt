@@ -233,6 +233,7 @@ blankSettings =
       ttd = record { 0 = 0 };
       ttr = record { 0 = 0 };
       retries = record { 0 = 0 };
+      tsdi = record { 0 = 0 };
     }
 
 unfoldable pub blank : State

@@ -193,6 +193,7 @@ retrying limit =
       ttd = standard .ttd;
       ttr = standard .ttr;
       retries = record { 0 = limit };
+      tsdi = standard .tsdi;
     }
 
 -- its rows, all octets 0

@@ -108,6 +108,7 @@ fn blank_settings() -> Settings
         ttd: BitTime(0),
         ttr: BitTime(0),
         retries: Count(0),
+        tsdi: BitTime(0),
     }
 }
 

@@ -12,8 +12,8 @@ use Rattle.ring.specs.Ring.{nextOf, previousOf}
 use Rattle.test_parts.specs.declared.reckoned.FlatTimes.{FlatTimes}
 
 -- the settings that numbers mean
-abbrev pub settingsFrom : ℕ → ℕ → ℕ → ℕ → ℕ → ℕ → ℕ → Settings
-settingsFrom tset tqui mintsdr maxtsdr ttd ttr retries =
+abbrev pub settingsFrom : ℕ → ℕ → ℕ → ℕ → ℕ → ℕ → ℕ → ℕ → Settings
+settingsFrom tset tqui mintsdr maxtsdr ttd ttr retries tsdi =
     record {
       tset = record { 0 = tset };
       tqui = record { 0 = tqui };
@@ -22,6 +22,7 @@ settingsFrom tset tqui mintsdr maxtsdr ttd ttr retries =
       ttd = record { 0 = ttd };
       ttr = record { 0 = ttr };
       retries = record { 0 = retries };
+      tsdi = record { 0 = tsdi };
     }
 
 -- ---- times

@@ -70,9 +70,10 @@ pub extern "C" fn parts_reckon(
     ttd: u32,
     ttr: u32,
     retries: u32,
+    tsdi: u32,
     ts: u8,
 ) -> FlatTimes
-    ensures { λ r. ⌜ r ≡ reckons (settingsFrom tset tqui mintsdr maxtsdr ttd ttr retries) ts ⌝ }
+    ensures { λ r. ⌜ r ≡ reckons (settingsFrom tset tqui mintsdr maxtsdr ttd ttr retries tsdi) ts ⌝ }
 {
     let s = Settings {
         tset: BitTime(tset),
@@ -82,6 +83,7 @@ pub extern "C" fn parts_reckon(
         ttd: BitTime(ttd),
         ttr: BitTime(ttr),
         retries: Count(retries),
+        tsdi: BitTime(tsdi),
     };
     match times::reckon(s, Address(ts)) {
         Reckoned::Refused(n) => flat_refused(n, s),

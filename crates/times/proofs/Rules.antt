@@ -7,7 +7,7 @@ use native.Mathlib.Omega.{arith}
 use Rattle.choice.specs.Choice.{less}
 use Rattle.choice.proofs.Rules.{false-less, unrefused, granted, is-said}
 use Rattle.times.specs.declared.Settings.{Settings}
-use Rattle.times.specs.Times.{outside, unruly, Small}
+use Rattle.times.specs.Times.{outside, unrulyDelays, unruly, Small}
 
 -- a number that is not outside is within
 pub outside-within : (n least most : ℕ) → outside n least most ≡ false → (least ≤ n) × (n ≤ most)
@@ -17,9 +17,9 @@ outside-within n least most e =
     let b = unrefused (less most n) _ (a .1) in
     (false-less n least (a .0), false-less most n (b .0))
 
-pub ruly-small : (s : Settings) → unruly s ≡ false → Small s
-unfolding unruly
-ruly-small s e =
+pub small-delays : (s : Settings) → unrulyDelays s ≡ false → s .tsdi .0 ≤ 65535 → Small s
+unfolding unrulyDelays
+small-delays s e h =
     let a = unrefused _ _ e in
     let b = unrefused _ _ (a .1) in
     let c = unrefused _ _ (b .1) in
@@ -29,17 +29,23 @@ ruly-small s e =
     record {
       tset = outside-within (s .tset .0) 20 255 (is-said (a .0)) .1;
       tqui = false-less 255 (s .tqui .0) (b .0);
+      mintsdr = outside-within (s .mintsdr .0) 20 65535 (is-said (c .0)) .1;
       maxtsdr = outside-within (s .maxtsdr .0) (s .mintsdr .0) 65535 (is-said (f .0)) .1;
       ttd = false-less 65535 (s .ttd .0) (g .0);
+      tsdi = h;
     }
+
+pub ruly-small : (s : Settings) → unruly s ≡ false → Small s
+unfolding unruly
+ruly-small s e =
+    let a = unrefused _ _ e in
+    let d = unrefused _ _ (unrefused _ _ (unrefused _ _ (a .1) .1) .1) in
+    small-delays s (is-said (a .0)) (false-less 65535 (s .tsdi .0) (d .0))
 
 -- and their retry limit is at most 15
 pub ruly-retries : (s : Settings) → unruly s ≡ false → s .retries .0 ≤ 15
 unfolding unruly
-ruly-retries s e =
-    let d = granted _ _ (unrefused _ _ (unrefused _ _ (unrefused _ _ e .1) .1) .1) in
-    let g = unrefused _ _ (unrefused _ _ (d .1) .1) in
-    false-less 15 (s .retries .0) (unrefused _ _ (unrefused _ _ (g .1) .1) .0)
+ruly-retries s e = false-less 15 (s .retries .0) (unrefused _ _ (unrefused _ _ (unrefused _ _ e .1) .1) .0)
 
 -- 2 TS TSL is small
 pub small-product : (ts slot : ℕ) → ts ≤ 126 → slot ≤ 197383 → 2 * ts * slot ≤ 252 * 197383

@@ -1,5 +1,5 @@
--- Document 01, "Times": settings and their rules, the times that follow from them, and the wait of each sending.
--- Assumes nothing.
+-- Document 01, "Times": settings and their rules, the times that follow from them, and the wait of each sending; with
+-- document 02, order 1: TSDI, and Tid1 that heeds the responder. Assumes nothing.
 use Prim.Native.Nat.{ℕ, _+_, _*_, _≤_, max}
 use mathlib.Core.Bool.{Bool, true, false}
 use Rattle.choice.specs.Choice.{pick, less, said}
@@ -18,15 +18,15 @@ outside n least most = pick (less n least) true (pick (less most n) true false)
 unfoldable pub tsm : Settings → ℕ
 tsm s = 2 + 2 * s .tset .0 + s .tqui .0
 
--- "Tid1 = 33 + TSM"
+-- "Tid1 = max(33 + TSM, min TSDR, TSDI)", of document 02, order 1
 unfoldable pub tid1 : Settings → ℕ
-tid1 s = 33 + tsm s
+tid1 s = max (33 + tsm s) (max (s .mintsdr .0) (s .tsdi .0))
 
--- "Tid2 = max(33 + TSM, max TSDR)"
+-- "Tid2 = max(33 + TSM, max TSDR)": "Tid2 stays as it was"
 unfoldable pub tid2 : Settings → ℕ
 tid2 s = max (33 + tsm s) (s .maxtsdr .0)
 
--- "TSL = 2 TTD + 11 + TSM + max(max TSDR, Tid1)"
+-- "TSL = 2 TTD + 11 + TSM + max(max TSDR, Tid1)": "TSL follows"
 unfoldable pub tsl : Settings → ℕ
 tsl s = 2 * s .ttd .0 + 11 + tsm s + max (s .maxtsdr .0) (tid1 s)
 
@@ -38,20 +38,26 @@ tto s ts = 6 * tsl s + 2 * ts * tsl s
 unfoldable pub tooLong : Settings → Bool
 tooLong s = pick (less 65535 (tsl s)) true false
 
--- "Tset 20..255, Tqui 0..255, min TSDR 20..65535 and above Tqui, max TSDR from min TSDR to 65535, TTD 0..65535, TTR
--- 20..2^24-1, retry limit 0..15"
-unfoldable pub unruly : Settings → Bool
-unruly s =
+-- "Tset 20..255, Tqui 0..255, min TSDR 20..65535 and above Tqui, max TSDR from min TSDR to 65535, TTD 0..65535, ..
+unfoldable pub unrulyDelays : Settings → Bool
+unrulyDelays s =
     pick (said (outside (s .tset .0) 20 255)) true
     (pick (less 255 (s .tqui .0)) true
     (pick (said (outside (s .mintsdr .0) 20 65535)) true
     (pick (less (s .tqui .0) (s .mintsdr .0))
     (pick (said (outside (s .maxtsdr .0) (s .mintsdr .0) 65535)) true
     (pick (less 65535 (s .ttd .0)) true
+    false))
+    true)))
+
+-- .. TTR 20..2^24-1, retry limit 0..15"; of order 1 "TSDI .. 0..65535"; and TSL
+unfoldable pub unruly : Settings → Bool
+unruly s =
+    pick (said (unrulyDelays s)) true
     (pick (said (outside (s .ttr .0) 20 16777215)) true
     (pick (less 15 (s .retries .0)) true
-    (tooLong s)))))
-    true)))
+    (pick (less 65535 (s .tsdi .0)) true
+    (tooLong s))))
 
 -- the times that follow from settings and TS
 unfoldable pub timesOf : Settings → ℕ → Times
@@ -72,8 +78,10 @@ reckoned s ts = pick (said (unruly s)) (Refused 20) (pick (less 126 ts) (Refused
 pub record Small (s : Settings) : Type 0 where
   pub tset : s .tset .0 ≤ 255
   pub tqui : s .tqui .0 ≤ 255
+  pub mintsdr : s .mintsdr .0 ≤ 65535
   pub maxtsdr : s .maxtsdr .0 ≤ 65535
   pub ttd : s .ttd .0 ≤ 65535
+  pub tsdi : s .tsdi .0 ≤ 65535
 
 -- "Each sending comes with its wait: Tid2 before a request or token if this station's last sending in the hold was an
 -- SDN, Tid1 before others, min TSDR before a reply"
@@ -83,7 +91,8 @@ waitOf s AfterSdn = tid2 s
 waitOf s Other = tid1 s
 
 -- "Standard settings: Tset 20, Tqui 0, min TSDR 20, max TSDR 400, TTD 1, TTR 10000"; their retry limit is document
--- 02's (order 8): "The standard prefers a limit of 0, and our standard settings have 1. Change it to 0"
+-- 02's (order 8): "The standard prefers a limit of 0, and our standard settings have 1. Change it to 0"; and so is TSDI
+-- (order 1): "standard value 0"
 unfoldable pub standard : Settings
 standard =
     record {
@@ -94,4 +103,5 @@ standard =
       ttd = record { 0 = 1 };
       ttr = record { 0 = 10000 };
       retries = record { 0 = 0 };
+      tsdi = record { 0 = 0 };
     }

@@ -1,8 +1,8 @@
 // The times of a station: its settings, what follows from them and the wait of each sending. Nothing here knows a phase
 // or a frame. Assumes nothing.
 ghost use mathlib.Core.Path.{_≡_};
-ghost use Prim.Native.Nat.{_≤_, max};
-ghost use Rattle.times.specs.Times.{Small, tooLong, timesOf, reckoned, waitOf};
+ghost use Prim.Native.Nat.{_+_, _≤_, max};
+ghost use Rattle.times.specs.Times.{Small, unrulyDelays, tooLong, timesOf, reckoned, waitOf};
 ghost use Rattle.times.specs.Times.{outside as Times·outside, tsm as Times·tsm, tid1 as Times·tid1};
 ghost use Rattle.times.specs.Times.{tid2 as Times·tid2, tsl as Times·tsl, tto as Times·tto};
 ghost use Rattle.times.specs.Times.{unruly as Times·unruly, standard as Times·standard};
@@ -21,6 +21,7 @@ pub struct Settings {
     pub ttd: BitTime,
     pub ttr: BitTime,
     pub retries: Count,
+    pub tsdi: BitTime,
 }
 
 // What is being sent, as its wait goes by it: a reply, a request or token after an SDN of this hold, or any other.
@@ -39,6 +40,7 @@ pub const STANDARD: Settings = Settings {
     ttd: BitTime(1),
     ttr: BitTime(10000),
     retries: Count(0),
+    tsdi: BitTime(0),
 };
 
 // The standard settings, by their definition.
@@ -81,7 +83,7 @@ fn larger(a: u32, b: u32) -> u32
     if a < b { b } else { a }
 }
 
-// TSM, Tid1, Tid2, TSL and TTO of settings whose sums are small.
+// TSM, Tid1, Tid2 and TSL of settings whose sums are small.
 fn tsm(s: Settings) -> u32
     requires { ⌜ Small s ⌝ }
     ensures { λ r. ⌜ (r ≡ Times·tsm s) × (r ≤ 767) ⌝ }
@@ -89,18 +91,26 @@ fn tsm(s: Settings) -> u32
     2 + 2 * s.tset.0 + s.tqui.0
 }
 
-fn tid1(s: Settings) -> u32
+// 33 + TSM, which Tid1 and Tid2 share: what the line itself needs.
+fn line(s: Settings) -> u32
     requires { ⌜ Small s ⌝ }
-    ensures { λ r. ⌜ (r ≡ Times·tid1 s) × (r ≤ 800) ⌝ }
+    ensures { λ r. ⌜ (r ≡ 33 + Times·tsm s) × (r ≤ 800) ⌝ }
 {
     33 + tsm(s)
+}
+
+fn tid1(s: Settings) -> u32
+    requires { ⌜ Small s ⌝ }
+    ensures { λ r. ⌜ (r ≡ Times·tid1 s) × (r ≤ 65535) ⌝ }
+{
+    larger(line(s), larger(s.mintsdr.0, s.tsdi.0))
 }
 
 fn tid2(s: Settings) -> u32
     requires { ⌜ Small s ⌝ }
     ensures { λ r. ⌜ r ≡ Times·tid2 s ⌝ }
 {
-    larger(33 + tsm(s), s.maxtsdr.0)
+    larger(line(s), s.maxtsdr.0)
 }
 
 fn tsl(s: Settings) -> u32
@@ -121,17 +131,15 @@ fn too_long(s: Settings) -> bool
     false
 }
 
-// Whether settings are out of rule.
-pub fn unruly(s: Settings) -> bool
-    ensures { λ r. ⌜ r ≡ Times·unruly s ⌝ }
+// Whether the delays of the line and of its stations are out of rule.
+fn unruly_delays(s: Settings) -> bool
+    ensures { λ r. ⌜ r ≡ unrulyDelays s ⌝ }
 {
     let tset = s.tset.0;
     let tqui = s.tqui.0;
     let least = s.mintsdr.0;
     let most = s.maxtsdr.0;
     let ttd = s.ttd.0;
-    let ttr = s.ttr.0;
-    let retries = s.retries.0;
     if outside(tset, 20, 255) {
         return true;
     }
@@ -150,10 +158,26 @@ pub fn unruly(s: Settings) -> bool
     if 65535 < ttd {
         return true;
     }
+    false
+}
+
+// Whether settings are out of rule.
+pub fn unruly(s: Settings) -> bool
+    ensures { λ r. ⌜ r ≡ Times·unruly s ⌝ }
+{
+    let ttr = s.ttr.0;
+    let retries = s.retries.0;
+    let tsdi = s.tsdi.0;
+    if unruly_delays(s) {
+        return true;
+    }
     if outside(ttr, 20, 16777215) {
         return true;
     }
     if 15 < retries {
+        return true;
+    }
+    if 65535 < tsdi {
         return true;
     }
     too_long(s)

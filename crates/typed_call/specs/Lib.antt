@@ -1,3 +1,4 @@
 pub mod Table
+pub mod Pairs
 pub mod Script
 pub mod Operands

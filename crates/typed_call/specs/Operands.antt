@@ -9,6 +9,7 @@ use Rattle.typed.specs.Digits.{decimal, isOctets, octets}
 use Rattle.typed.specs.Lists.{list}
 use Rattle.typed.specs.Places.{LONG, SHORT, queue, room, service, access}
 use Rattle.typed_call.specs.Table as Table
+use Rattle.typed_call.specs.Pairs.{tsdiOf}
 use Rattle.times.specs.declared.Settings.{Settings}
 use Rattle.request.specs.declared.Record.{Record}
 use Rattle.request.specs.Record.{WAITING}
@@ -34,7 +35,7 @@ unfoldable pub point : ℕ → ℕ
 point n = pick (same n NONE) 254 (octet n)
 
 -- ---- the calls
--- `start Tset Tqui minTSDR maxTSDR TTD TTR retry TS masters points high low`
+-- `start Tset Tqui minTSDR maxTSDR TTD TTR retry TS masters points high low`, and `tsdi N`
 unfoldable pub settingsOf : List ℕ → Settings
 settingsOf l =
     record {
@@ -45,6 +46,7 @@ settingsOf l =
       ttd = record { 0 = numberAt l Table.TTD LONG };
       ttr = record { 0 = numberAt l Table.TTR LONG };
       retries = record { 0 = numberAt l Table.RETRY LONG };
+      tsdi = record { 0 = tsdiOf l .number .value };
     }
 
 unfoldable pub tsOf : List ℕ → ℕ

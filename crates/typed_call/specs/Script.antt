@@ -6,8 +6,10 @@ use mathlib.Core.List.{List, [], _∷_}
 use Rattle.choice.specs.Choice.{pick, said}
 use Rattle.typed.specs.Words.{word}
 use Rattle.typed.specs.Digits.{isOctets}
-use Rattle.typed.specs.Places.{LONG, SHORT, queue, room, service, access, named, numbers, isMasters, isPoints}
+use Rattle.typed.specs.Places.{LONG, SHORT, queue, room, service, access, called, named, numbers}
+use Rattle.typed.specs.Places.{isMasters, isPoints}
 use Rattle.typed_call.specs.Table as Table
+use Rattle.typed_call.specs.Pairs.{startPairs}
 use Rattle.typed_call.specs.declared.script.Call.{Call}
 use Rattle.typed_call.specs.declared.script.Call.the-variants.{Unknown, Start, Submit, Frame, Sent, Slot, Reset}
 use Rattle.typed_call.specs.declared.script.Call.the-variants.{Collect, Show}
@@ -46,7 +48,9 @@ abbrev pub w-show : List ℕ
 w-show = 0x73 ∷ (0x68 ∷ (0x6F ∷ (0x77 ∷ [])))
 
 -- ---- the calls
--- `start Tset Tqui minTSDR maxTSDR TTD TTR retry TS masters points high low`
+-- `start Tset Tqui minTSDR maxTSDR TTD TTR retry TS masters points high low`, and behind it its pairs. "A pair out of
+-- this order, named twice, unknown, or of a request that has not landed" is behind the last pair that is read, and so
+-- a word too many
 unfoldable pub isSite : List ℕ → Bool
 isSite l =
     pick (said (isMasters (word l Table.MASTERS)))
@@ -54,8 +58,9 @@ isSite l =
 
 unfoldable pub isStart : List ℕ → Bool
 isStart l =
-    pick (said (named l w-start Table.STARTWORDS))
-    (pick (said (numbers l Table.TSET Table.LONGS LONG)) (isSite l) false) false
+    pick (said (called l w-start))
+    (pick (said (startPairs l))
+    (pick (said (numbers l Table.TSET Table.LONGS LONG)) (isSite l) false) false) false
 
 -- `submit QUEUE SERVICE DA DSAP SSAP DATA`
 unfoldable pub isPointed : List ℕ → Bool

@@ -10,6 +10,7 @@ ghost use Rattle.typed_call.specs.Table.{SERVICE};
 ghost use Rattle.typed_call.specs.Operands.{numberAt, octetsAt, octet as Operands·octet};
 ghost use Rattle.typed_call.specs.Operands.{point as Operands·point, settingsOf, tsOf, mastersOf, pointsOf};
 ghost use Rattle.typed_call.specs.Operands.{highOf, lowOf, queueOf, requestOf, clockOf, roomOf};
+use super::pairs;
 use super::table;
 use clock::BitTime;
 use frame::Address;
@@ -90,6 +91,7 @@ pub fn settings(line: &[u8]) -> Settings
         ttd: time(line, table::TTD),
         ttr: time(line, table::TTR),
         retries: Count(number(line, table::RETRY, LONG)),
+        tsdi: BitTime(pairs::tsdi(line).number.value),
     }
 }
 

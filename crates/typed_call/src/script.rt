@@ -3,6 +3,7 @@
 ghost use mathlib.Core.Path.{_≡_};
 ghost use Rattle.typed_call.specs.Script.{isSite, isStart, isPointed, isRequest, isSubmit, isHeard, isFrame};
 ghost use Rattle.typed_call.specs.Script.{isClocked, isCollect, plainOf, clockedOf, callOf};
+use super::pairs;
 use super::table;
 use typed::places;
 use typed::places::LONG;
@@ -38,7 +39,10 @@ fn is_site(s: &[u8]) -> bool
 fn is_start(s: &[u8]) -> bool
     ensures { λ r. ⌜ r ≡ isStart (now (s .entry)) ⌝ }
 {
-    if !places::named(s, b"start", table::STARTWORDS) {
+    if !places::called(s, b"start") {
+        return false;
+    }
+    if !pairs::start_pairs(s) {
         return false;
     }
     if !places::numbers(s, table::TSET, table::LONGS, LONG) {

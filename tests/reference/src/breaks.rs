@@ -42,7 +42,7 @@ fn some_queue(case: &Case, random: &mut Random) -> Priority {
 }
 
 /// Each setting at and past its bounds.
-const SETTINGS: [Break; 10] = [
+const SETTINGS: [Break; 12] = [
     |case, random| case.core.settings.tset = random.pick(&[0, 19, 20, 255, 256, u32::MAX]),
     |case, random| case.core.settings.tqui = random.pick(&[0, 255, 256, u32::MAX]),
     |case, random| {
@@ -64,6 +64,13 @@ const SETTINGS: [Break; 10] = [
     },
     |case, random| case.core.settings.ttr = random.pick(&[0, 19, 20, (1 << 24) - 1, 1 << 24, u32::MAX]),
     |case, random| case.core.settings.retry_limit = random.pick(&[0, 15, 16, 255, 256, u32::MAX]),
+    |case, random| case.core.settings.tsdi = random.pick(&[0, 65_535, 65_536, 1 << 31, u32::MAX]),
+    |case, random| {
+        let settings = &mut case.core.settings;
+        if settings.in_range() {
+            settings.tsdi = starts::longest_initiator(settings) + random.pick(&[0, 1, 1, 2]);
+        }
+    },
 ];
 
 /// Places that hold an octet other than 1, and are so not in the set.

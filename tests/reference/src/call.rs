@@ -4,7 +4,7 @@ use crate::frame::{ALL_STATIONS, LAST_SOURCE_POINT};
 use crate::queue::{Priority, Request, Service};
 use crate::station::{Points, Start};
 use crate::text::unhex;
-use crate::times::Settings;
+use crate::times::{Settings, STANDARD};
 use crate::transitions::Transition;
 
 /// The most characters of a line, without its end.
@@ -31,10 +31,9 @@ impl Call {
         let words: Vec<&str> = line.split(' ').filter(|word| !word.is_empty()).collect();
         let (&name, operands) = words.split_first().ok_or(Transition::LineSpaces)?;
         let count = operand_count(name).ok_or(Transition::LineUnknown)?;
-        if operands.len() != count {
-            return Err(Transition::LineWords);
-        }
-        call(name, operands).ok_or(Transition::LineOperand)
+        let (operands, behind) = operands.split_at_checked(count).ok_or(Transition::LineWords)?;
+        let values = pairs(pair_names(name), behind)?;
+        call(name, operands, &values).ok_or(Transition::LineOperand)
     }
 }
 
@@ -49,10 +48,35 @@ fn operand_count(name: &str) -> Option<usize> {
     }
 }
 
-/// The call of a known word with as many operands as it takes.
-fn call(name: &str, operands: &[&str]) -> Option<Call> {
+/// The names of the pairs that may stand behind a call's operands, in their order.
+fn pair_names(name: &str) -> &'static [&'static str] {
+    match name {
+        "start" => &["tsdi"],
+        _ => &[],
+    }
+}
+
+/// The value of each name, none where its pair is left out.
+fn pairs(names: &[&str], words: &[&str]) -> Result<Vec<Option<u32>>, Transition> {
+    if names.is_empty() && !words.is_empty() {
+        return Err(Transition::LineWords);
+    }
+    let mut values = vec![None; names.len()];
+    let mut free = 0;
+    for pair in words.chunks(2) {
+        let &[name, value] = pair else { return Err(Transition::LinePair) };
+        let known = names.iter().position(|known| *known == name);
+        let place = known.filter(|&place| place >= free).ok_or(Transition::LinePair)?;
+        values[place] = Some(number(value).ok_or(Transition::LineOperand)?);
+        free = place + 1;
+    }
+    Ok(values)
+}
+
+/// The call of a known word with as many operands as it takes, and the values of its pairs.
+fn call(name: &str, operands: &[&str], values: &[Option<u32>]) -> Option<Call> {
     match (name, operands) {
-        ("start", operands) => start(operands).map(Call::Start),
+        ("start", operands) => start(operands, values).map(Call::Start),
         ("submit", &[queue, service, destination, to, from, data]) => {
             let request = Request {
                 service: service_of(service)?,
@@ -79,7 +103,7 @@ fn call(name: &str, operands: &[&str]) -> Option<Call> {
     }
 }
 
-fn start(operands: &[&str]) -> Option<Start> {
+fn start(operands: &[&str], values: &[Option<u32>]) -> Option<Start> {
     let &[tset, tqui, min_tsdr, max_tsdr, ttd, ttr, retry, address, masters, points, high, low] = operands
     else {
         return None;
@@ -92,6 +116,7 @@ fn start(operands: &[&str]) -> Option<Start> {
         ttd: number(ttd)?,
         ttr: number(ttr)?,
         retry_limit: number(retry)?,
+        tsdi: values[0].unwrap_or(STANDARD.tsdi),
     };
     Some(Start {
         settings,

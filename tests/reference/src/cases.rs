@@ -306,7 +306,8 @@ impl Case {
 pub fn blank(call: Call) -> Case {
     let counts = Counts { places: 0, first: 0, confirmed: 0, unconfirmed: 0 };
     let lent = Lent { records: Vec::new(), row: None, area: None };
-    let settings = Settings { tset: 0, tqui: 0, min_tsdr: 0, max_tsdr: 0, ttd: 0, ttr: 0, retry_limit: 0 };
+    let settings =
+        Settings { tset: 0, tqui: 0, min_tsdr: 0, max_tsdr: 0, ttd: 0, ttr: 0, retry_limit: 0, tsdi: 0 };
     let core = Core {
         settings,
         acceptance: 0,
@@ -346,8 +347,8 @@ pub fn blank(call: Call) -> Case {
 }
 
 fn settings_word(settings: &Settings) -> String {
-    let Settings { tset, tqui, min_tsdr, max_tsdr, ttd, ttr, retry_limit } = settings;
-    format!("{tset},{tqui},{min_tsdr},{max_tsdr},{ttd},{ttr},{retry_limit}")
+    let Settings { tset, tqui, min_tsdr, max_tsdr, ttd, ttr, retry_limit, tsdi } = settings;
+    format!("{tset},{tqui},{min_tsdr},{max_tsdr},{ttd},{ttr},{retry_limit},{tsdi}")
 }
 
 fn count_word(count: Count) -> String {
@@ -393,6 +394,7 @@ fn read_settings<'a>(numbers: &mut impl Iterator<Item = &'a str>) -> Result<Sett
         ttd: next(numbers)?,
         ttr: next(numbers)?,
         retry_limit: next(numbers)?,
+        tsdi: next(numbers)?,
     })
 }
 

@@ -9,9 +9,10 @@ use crate::rows::{Record, STATUSES};
 /// Its words, which calls can be accepted with it, and whether a case has it.
 pub type Oddity = (&'static str, fn(Call) -> bool, fn(&Case) -> bool);
 
-pub const ODDITIES: [Oddity; 23] = [
+pub const ODDITIES: [Oddity; 24] = [
     ("TSL of 65534 or 65535", any, |case| case.core.settings.tsl() >= 65_534),
     ("a retry limit of 15", any, |case| case.core.settings.retry_limit == 15),
+    ("Tid1 over Tid2", any, |case| case.core.settings.tid1() > case.core.settings.tid2()),
     ("TS 126", any, |case| case.core.ts == 126),
     ("TS alone in the set", any, |case| members(&case.masters) == [case.core.ts]),
     ("a set with octets over 1", any, |case| case.masters.iter().any(|&octet| octet > 1)),

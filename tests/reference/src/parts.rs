@@ -54,7 +54,7 @@ impl Parts {
         let words: Vec<&str> = call.split(' ').collect();
         match words[..] {
             ["standard"] => Ok(say_settings(&STANDARD)),
-            ["settings", tset, tqui, min_tsdr, max_tsdr, ttd, ttr, retry_limit, address] => {
+            ["settings", tset, tqui, min_tsdr, max_tsdr, ttd, ttr, retry_limit, tsdi, address] => {
                 let settings = Settings {
                     tset: number(tset)?,
                     tqui: number(tqui)?,
@@ -63,6 +63,7 @@ impl Parts {
                     ttd: number(ttd)?,
                     ttr: number(ttr)?,
                     retry_limit: number(retry_limit)?,
+                    tsdi: number(tsdi)?,
                 };
                 Ok(say_times(&settings, number(address)?))
             }
@@ -141,8 +142,8 @@ fn layout_of(words: &[&str]) -> Result<Layout, String> {
 }
 
 fn say_settings(settings: &Settings) -> String {
-    let Settings { tset, tqui, min_tsdr, max_tsdr, ttd, ttr, retry_limit } = settings;
-    format!("{tset} {tqui} {min_tsdr} {max_tsdr} {ttd} {ttr} {retry_limit}")
+    let Settings { tset, tqui, min_tsdr, max_tsdr, ttd, ttr, retry_limit, tsdi } = settings;
+    format!("{tset} {tqui} {min_tsdr} {max_tsdr} {ttd} {ttr} {retry_limit} {tsdi}")
 }
 
 fn say_times(settings: &Settings, address: u8) -> String {
@@ -200,18 +201,31 @@ mod tests {
         calls.iter().map(|call| parts.answer(call).unwrap()).collect()
     }
 
-    /// The standard settings, with document 02's retry limit; cases 9 and 10 of document 01, and its own example of a
+    /// The standard settings, with document 02's retry limit and TSDI; case 9 of document 01, then document 02's order 1:
+    /// min TSDR 200, a TSDI over max TSDR, and one that TSL does not allow; case 10, and document 01's own example of a
     /// ring.
     #[test]
     fn document() {
         let calls = [
             "standard",
-            "settings 20 0 20 400 1 10000 0 2",
+            "settings 20 0 20 400 1 10000 0 0 2",
+            "settings 20 0 200 400 1 10000 0 0 2",
+            "settings 20 0 20 400 1 10000 0 500 2",
+            "settings 20 0 20 400 1 10000 0 65481 2",
             "left 1099 100 1000",
             "left 1100 100 1000",
             "ring 2 2,5",
         ];
-        let expected = ["20 0 20 400 1 10000 0", "0 42 75 400 455 4550 20 400 75", "1", "0", "5 5"];
+        let expected = [
+            "20 0 20 400 1 10000 0 0",
+            "0 42 75 400 455 4550 20 400 75",
+            "0 42 200 400 455 4550 200 400 200",
+            "0 42 500 400 555 5550 20 400 500",
+            "20 0 0 0 0 0 0 0 0",
+            "1",
+            "0",
+            "5 5",
+        ];
         assert_eq!(answers(&calls), expected);
     }
 

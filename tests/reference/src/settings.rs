@@ -1,21 +1,30 @@
 //! The script of times: the standard settings, settings at and around each bound, seeded ones, and the time that is left.
 
 use crate::random::Random;
+use crate::starts::longest_initiator;
 use crate::times::{Settings, STANDARD};
 
 /// A setting changed to a value.
 type Change = fn(&mut Settings, u32);
 
 /// Each setting, with the values at and around its bounds where the others are standard.
-const BOUNDS: [(Change, &[u32]); 7] = [
+const BOUNDS: [(Change, &[u32]); 8] = [
     (|settings, value| settings.tset = value, &[19, 20, 21, 254, 255, 256]),
     (|settings, value| settings.tqui = value, &[0, 1, 19, 20, 21, 254, 255, 256]),
-    (|settings, value| settings.min_tsdr = value, &[19, 20, 21, 399, 400, 401, 65_535, 65_536]),
+    (
+        |settings, value| settings.min_tsdr = value,
+        &[19, 20, 21, 74, 75, 76, 200, 399, 400, 401, 65_535, 65_536],
+    ),
     (|settings, value| settings.max_tsdr = value, &[19, 20, 21, 74, 75, 76, 65_534, 65_535, 65_536]),
     (|settings, value| settings.ttd = value, &[0, 1, 32_540, 32_541, 32_542, 65_534, 65_535, 65_536]),
     (|settings, value| settings.ttr = value, &[19, 20, 21, (1 << 24) - 2, (1 << 24) - 1, 1 << 24]),
     (|settings, value| settings.retry_limit = value, &[0, 1, 14, 15, 16]),
+    (|settings, value| settings.tsdi = value, &TSDI),
 ];
+
+/// TSDI around the standard Tid1 and max TSDR, around what TSL allows and around its bound.
+const TSDI: [u32; 16] =
+    [0, 1, 74, 75, 76, 199, 200, 201, 399, 400, 401, 65_480, 65_481, 65_534, 65_535, 65_536];
 
 /// Values that are over every bound.
 const OVER: [u32; 4] = [1 << 16, 1 << 24, 1 << 31, u32::MAX];
@@ -28,6 +37,7 @@ pub fn times(seed: u64, count: usize) -> Vec<String> {
     let mut calls = vec!["standard".to_string()];
     each_bound(&mut calls);
     related_bounds(&mut calls);
+    slow_initiators(&mut calls);
     for _ in 0..count {
         let address = if random.one_in(16) { random.octet() } else { random.below(127) as u8 };
         calls.push(settings_call(&seeded(&mut random), address));
@@ -38,8 +48,8 @@ pub fn times(seed: u64, count: usize) -> Vec<String> {
 }
 
 fn settings_call(settings: &Settings, address: u8) -> String {
-    let Settings { tset, tqui, min_tsdr, max_tsdr, ttd, ttr, retry_limit } = settings;
-    format!("settings {tset} {tqui} {min_tsdr} {max_tsdr} {ttd} {ttr} {retry_limit} {address}")
+    let Settings { tset, tqui, min_tsdr, max_tsdr, ttd, ttr, retry_limit, tsdi } = settings;
+    format!("settings {tset} {tqui} {min_tsdr} {max_tsdr} {ttd} {ttr} {retry_limit} {tsdi} {address}")
 }
 
 /// Each setting at and around its bounds and over all of them, the others standard, at each address of note.
@@ -77,6 +87,26 @@ fn longest_replies(settings: &Settings, calls: &mut Vec<String>) {
     }
 }
 
+/// TSDI around each time that it is held against, 33 + TSM, min TSDR and max TSDR, and around what TSL allows and its
+/// bound; the others in any order of length.
+fn slow_initiators(calls: &mut Vec<String>) {
+    for (tset, tqui) in [(20, 0), (20, 19), (255, 0), (255, 255)] {
+        let line = 33 + Settings { tset, tqui, ..STANDARD }.tsm();
+        for min_tsdr in [tqui.max(19) + 1, line - 1, line, line + 1, 2000] {
+            for max_tsdr in [min_tsdr, min_tsdr + 1, min_tsdr.max(line), min_tsdr + 900, 64_000] {
+                for ttd in [0, 1, 700] {
+                    let settings = Settings { tset, tqui, min_tsdr, max_tsdr, ttd, ..STANDARD };
+                    for value in [1, line, min_tsdr, max_tsdr, longest_initiator(&settings), 65_535] {
+                        for tsdi in [value - 1, value, value + 1] {
+                            calls.push(settings_call(&Settings { tsdi, ..settings.clone() }, 2));
+                        }
+                    }
+                }
+            }
+        }
+    }
+}
+
 /// Settings that are mostly in rule, one in three with a setting changed to a bound or to anything.
 fn seeded(random: &mut Random) -> Settings {
     let tqui = any_size(random, 256);
@@ -89,6 +119,7 @@ fn seeded(random: &mut Random) -> Settings {
         ttd: any_size(random, 35_000),
         ttr: 20 + any_size(random, (1 << 24) - 20),
         retry_limit: random.below(16) as u32,
+        tsdi: any_size(random, 60_000),
     };
     if random.one_in(3) {
         let (change, values) = random.pick(&BOUNDS);

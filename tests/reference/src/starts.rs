@@ -2,7 +2,7 @@
 
 use crate::random::Random;
 use crate::ring::ADDRESSES;
-use crate::times::Settings;
+use crate::times::{Settings, STANDARD};
 
 /// A start that is accepted.
 pub fn lawful(random: &mut Random) -> String {
@@ -28,6 +28,7 @@ fn draft(random: &mut Random) -> Draft {
         points: points(random),
         high: row(random),
         low: row(random),
+        tsdi_said: random.one_in(4),
     }
 }
 
@@ -39,6 +40,8 @@ struct Draft {
     points: Vec<Option<u8>>,
     high: u8,
     low: u8,
+    /// Whether TSDI is said where it is standard.
+    tsdi_said: bool,
 }
 
 impl Draft {
@@ -47,8 +50,13 @@ impl Draft {
         let masters: Vec<String> = self.masters.iter().map(u8::to_string).collect();
         let point = |point: &Option<u8>| point.map_or("none".to_string(), |point| point.to_string());
         let points: Vec<String> = self.points.iter().map(point).collect();
+        let tsdi = if self.tsdi_said || s.tsdi != STANDARD.tsdi {
+            format!(" tsdi {}", s.tsdi)
+        } else {
+            String::new()
+        };
         format!(
-            "start {} {} {} {} {} {} {} {} {} {} {} {}",
+            "start {} {} {} {} {} {} {} {} {} {} {} {}{tsdi}",
             s.tset,
             s.tqui,
             s.min_tsdr,
@@ -73,7 +81,7 @@ fn list(entries: &[String]) -> String {
 }
 
 /// One thing out of rule each: refusals 20, then 21.
-const FAULTS: [fn(&mut Draft, &mut Random); 15] = [
+const FAULTS: [fn(&mut Draft, &mut Random); 17] = [
     |draft, random| draft.settings.tset = random.pick(&[0, 19, 256, u32::MAX]),
     |draft, random| draft.settings.tqui = random.pick(&[256, u32::MAX]),
     |draft, random| draft.settings.min_tsdr = random.pick(&[0, 19, 65_536, u32::MAX]),
@@ -83,8 +91,10 @@ const FAULTS: [fn(&mut Draft, &mut Random); 15] = [
     |draft, random| draft.settings.ttd = random.pick(&[65_536, u32::MAX]),
     |draft, random| draft.settings.ttr = random.pick(&[0, 19, 1 << 24, u32::MAX]),
     |draft, random| draft.settings.retry_limit = random.pick(&[16, 255, 256, u32::MAX]),
+    |draft, random| draft.settings.tsdi = random.pick(&[65_536, 1 << 24, u32::MAX]),
     // TSL of 65536 or 65537, or well above.
     |draft, random| draft.settings.ttd = longest_delay(&draft.settings) + 1 + random.pick(&[0, 0, 100]),
+    |draft, random| draft.settings.tsdi = longest_initiator(&draft.settings) + 1 + random.pick(&[0, 0, 100]),
     |draft, random| draft.address = random.pick(&[127, 128, 255, 256, u32::MAX]),
     |draft, _| draft.masters.retain(|&master| u32::from(master) != draft.address),
     |draft, _| draft.masters.clear(),
@@ -96,6 +106,11 @@ const FAULTS: [fn(&mut Draft, &mut Random); 15] = [
 pub fn longest_delay(settings: &Settings) -> u32 {
     let without = Settings { ttd: 0, ..settings.clone() }.tsl();
     65_535_u32.saturating_sub(without) / 2
+}
+
+/// The longest TSDI for which TSL is in rule, if max TSDR leaves it so.
+pub fn longest_initiator(settings: &Settings) -> u32 {
+    65_535_u32.saturating_sub(2 * settings.ttd + 11 + settings.tsm())
 }
 
 /// Settings in rule.
@@ -113,7 +128,11 @@ pub fn settings(random: &mut Random) -> Settings {
         ttd: any(random, 0, 40),
         ttr: random.pick(&[20, 1000, 1000, 10_000, 10_000, 50_000, (1 << 24) - 1]),
         retry_limit: any(random, 0, 15),
+        tsdi: if random.one_in(2) { STANDARD.tsdi } else { any(random, 0, 1500) },
     };
+    if random.one_in(10) {
+        settings.tsdi = longest_initiator(&settings);
+    }
     settings.retry_limit = random.pick(&[0, 1, 1, 2, 3, 15, settings.retry_limit]);
     if random.one_in(10) {
         settings.ttd = longest_delay(&settings);

@@ -1,5 +1,5 @@
-//! Times of document 01, section "Times": the settings, their rules, and the times that follow from them.
-//! All are bit times, except the retry limit.
+//! Times of document 01, section "Times", with TSDI of document 02's order 1: the settings, their rules, and the times
+//! that follow from them. All are bit times, except the retry limit.
 
 #[derive(Clone, Debug)]
 pub struct Settings {
@@ -10,6 +10,7 @@ pub struct Settings {
     pub ttd: u32,
     pub ttr: u32,
     pub retry_limit: u32,
+    pub tsdi: u32,
 }
 
 impl Settings {
@@ -27,6 +28,7 @@ impl Settings {
             && self.ttd <= 65_535
             && (20..1 << 24).contains(&self.ttr)
             && self.retry_limit <= 15
+            && self.tsdi <= 65_535
     }
 
     // The times below are for settings within their ranges, whose sums fit 32 bits with room to spare.
@@ -35,8 +37,9 @@ impl Settings {
         2 + 2 * self.tset + self.tqui
     }
 
+    /// The longest of what the line, the responder and the initiator need: clause 5.5.3.7 of the standard.
     pub fn tid1(&self) -> u32 {
-        33 + self.tsm()
+        [33 + self.tsm(), self.min_tsdr, self.tsdi].into_iter().fold(0, u32::max)
     }
 
     pub fn tid2(&self) -> u32 {
@@ -53,9 +56,9 @@ impl Settings {
     }
 }
 
-/// The standard settings of document 01, with the retry limit of document 02's order 8.
+/// The standard settings of document 01, with TSDI and the retry limit of document 02's orders 1 and 8.
 pub const STANDARD: Settings =
-    Settings { tset: 20, tqui: 0, min_tsdr: 20, max_tsdr: 400, ttd: 1, ttr: 10_000, retry_limit: 0 };
+    Settings { tset: 20, tqui: 0, min_tsdr: 20, max_tsdr: 400, ttd: 1, ttr: 10_000, retry_limit: 0, tsdi: 0 };
 
 /// The time from an earlier clock to a later one, modulo 2^32: a clock that goes back is a long wait.
 pub fn elapsed(earlier: u32, later: u32) -> u32 {
@@ -75,6 +78,18 @@ mod tests {
         assert_eq!((standard.tsl(), standard.tto(2)), (455, 4550));
     }
 
+    /// Document 02's order 1: a slow responder moves Tid1 alone, TSDI also TSL, and neither moves Tid2.
+    #[test]
+    fn idle_time() {
+        let times = |settings: Settings| {
+            assert!(settings.in_rule());
+            [settings.tid1(), settings.tid2(), settings.tsl(), settings.tto(2)]
+        };
+        assert_eq!(times(Settings { min_tsdr: 200, ..STANDARD }), [200, 400, 455, 4550]);
+        assert_eq!(times(Settings { tsdi: 300, ..STANDARD }), [300, 400, 455, 4550]);
+        assert_eq!(times(Settings { tsdi: 500, ..STANDARD }), [500, 400, 555, 5550]);
+    }
+
     #[test]
     fn limits_of_the_rules() {
         let standard = || STANDARD;
@@ -92,9 +107,13 @@ mod tests {
             Settings { retry_limit: 16, ..standard() },
             // TSL = 2 TTD + 11 + 42 + 400 just over 65535.
             Settings { ttd: 32_542, ..standard() },
+            Settings { tsdi: 65_536, ttd: 0, ..standard() },
+            // TSL = 2 + 11 + 42 + TSDI just over 65535.
+            Settings { tsdi: 65_481, ..standard() },
         ];
         assert!(refused.iter().all(|settings| !settings.in_rule()));
         assert!(Settings { ttd: 32_541, ..standard() }.in_rule());
+        assert!(Settings { tsdi: 65_480, ..standard() }.in_rule());
         assert!(Settings { tqui: 19, ttr: (1 << 24) - 1, retry_limit: 15, ..standard() }.in_rule());
     }
 

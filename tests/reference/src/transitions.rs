@@ -20,6 +20,7 @@ transitions! {
     LineUnknown: "line: unknown word",
     LineWords: "line: too few or too many words",
     LineOperand: "line: a word that does not fit its place",
+    LinePair: "line: a pair out of order, twice, unknown or without a value",
     LineBeforeStart: "line: a call before the first start",
     LineShow: "line: show",
 

@@ -11,4 +11,4 @@ unfolding tid1
 returns c = (cc, omega arith)
 
 pub tid1-spec : {M : Type 1} → statement M
-tid1-spec = tie.close (tie.spec (λ c κs. search needs) (λ c. search needs) returns)
+tid1-spec = tie.close (tie.spec (λ c κs. search needs) (λ c κs. search needs) (λ c κs. search needs) returns)

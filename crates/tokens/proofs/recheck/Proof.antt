@@ -25,6 +25,7 @@ pass-to-requires : tie.Need-pass-to-requires
 pass-to-requires c κs =
     let after-next2 : tie.After-next2 = search depth 0 in
     let after-with-ps : tie.After-with-ps = search depth 0 in
+    let after-remove : tie.After-remove = search depth 0 in
     let after-next : tie.After-next = search depth 0 in
     let start : tie.Start = search depth 0 in
     let p = start .pre in

@@ -6,8 +6,10 @@ use Rattle.typed.specs.Words.{spaces, letters, begins, ends, ahead, beginOf, be
 use Rattle.typed.specs.Digits.{digit, allDigits, valueOn, noNumber, number, readOn, decimal, nibble, allHex, dash}
 use Rattle.typed.specs.Digits.{isOctets}
 use Rattle.typed.specs.Lists.{entry, listed, closing, listOn, list}
-use Rattle.typed.specs.Places.{either, queue, room, unserved, service, access, named, numbers, isMasters}
-use Rattle.typed.specs.Places.{isPoints}
+use Rattle.typed.specs.Places.{either, queue, room, unserved, service, access, called, named, numbers, pair}
+use Rattle.typed.specs.Places.{isMasters, isPoints}
+use Rattle.times.specs.Times.{standard}
+use Rattle.typed_call.specs.Pairs.{tsdiOf, startPairs}
 use Rattle.typed_call.specs.declared.script.Call.the-variants.{Unknown, Start, Submit, Frame, Slot, Collect}
 use Rattle.typed_call.specs.Script.{isSite, isStart, isPointed, isRequest, isSubmit, isHeard, isFrame}
 use Rattle.typed_call.specs.Script.{isClocked, isCollect, plainOf, clockedOf, callOf}
@@ -46,6 +48,23 @@ pub lines : (callOf (115 ∷ (116 ∷ (97 ∷ (114 ∷ (116 ∷ (32 ∷ (50 ∷ 
     × (callOf (32 ∷ (32 ∷ (32 ∷ []))) ≡ Unknown)
 unfolding pick less same said spaces letters begins ends ahead beginOf begun wordsBehind word equal digit
     allDigits valueOn noNumber number readOn decimal nibble allHex dash isOctets entry listed closing listOn list
-    either queue room unserved service access named numbers isMasters isPoints isSite isStart isPointed isRequest
-    isSubmit isHeard isFrame isClocked isCollect plainOf clockedOf callOf
+    either queue room unserved service access called named numbers pair isMasters isPoints standard tsdiOf startPairs
+    isSite isStart isPointed isRequest isSubmit isHeard isFrame isClocked isCollect plainOf clockedOf callOf
 lines = (refl, refl, refl, refl, refl, refl, refl, refl, refl, refl)
+
+-- lines with the pair of order 1, in turn:
+-- "start 20 0 20 400 1 10000 1 2 2,5 none 4 4 tsdi 300"
+-- "start 20 0 20 400 1 10000 1 2 2,5 none 4 4 tsdi"
+-- "start 20 0 20 400 1 10000 1 2 2,5 none 4 4 tsdi 300 tsdi 300"
+-- "start 20 0 20 400 1 10000 1 2 2,5 none 4 4 tset 20"
+-- "start 20 0 20 400 1 10000 1 2 2,5 none 4 4 tsdi 4294967296"
+pub pairs : (callOf (115 ∷ (116 ∷ (97 ∷ (114 ∷ (116 ∷ (32 ∷ (50 ∷ (48 ∷ (32 ∷ (48 ∷ (32 ∷ (50 ∷ (48 ∷ (32 ∷ (52 ∷ (48 ∷ (48 ∷ (32 ∷ (49 ∷ (32 ∷ (49 ∷ (48 ∷ (48 ∷ (48 ∷ (48 ∷ (32 ∷ (49 ∷ (32 ∷ (50 ∷ (32 ∷ (50 ∷ (44 ∷ (53 ∷ (32 ∷ (110 ∷ (111 ∷ (110 ∷ (101 ∷ (32 ∷ (52 ∷ (32 ∷ (52 ∷ (32 ∷ (116 ∷ (115 ∷ (100 ∷ (105 ∷ (32 ∷ (51 ∷ (48 ∷ (48 ∷ []))))))))))))))))))))))))))))))))))))))))))))))))))) ≡ Start)
+    × (callOf (115 ∷ (116 ∷ (97 ∷ (114 ∷ (116 ∷ (32 ∷ (50 ∷ (48 ∷ (32 ∷ (48 ∷ (32 ∷ (50 ∷ (48 ∷ (32 ∷ (52 ∷ (48 ∷ (48 ∷ (32 ∷ (49 ∷ (32 ∷ (49 ∷ (48 ∷ (48 ∷ (48 ∷ (48 ∷ (32 ∷ (49 ∷ (32 ∷ (50 ∷ (32 ∷ (50 ∷ (44 ∷ (53 ∷ (32 ∷ (110 ∷ (111 ∷ (110 ∷ (101 ∷ (32 ∷ (52 ∷ (32 ∷ (52 ∷ (32 ∷ (116 ∷ (115 ∷ (100 ∷ (105 ∷ []))))))))))))))))))))))))))))))))))))))))))))))) ≡ Unknown)
+    × (callOf (115 ∷ (116 ∷ (97 ∷ (114 ∷ (116 ∷ (32 ∷ (50 ∷ (48 ∷ (32 ∷ (48 ∷ (32 ∷ (50 ∷ (48 ∷ (32 ∷ (52 ∷ (48 ∷ (48 ∷ (32 ∷ (49 ∷ (32 ∷ (49 ∷ (48 ∷ (48 ∷ (48 ∷ (48 ∷ (32 ∷ (49 ∷ (32 ∷ (50 ∷ (32 ∷ (50 ∷ (44 ∷ (53 ∷ (32 ∷ (110 ∷ (111 ∷ (110 ∷ (101 ∷ (32 ∷ (52 ∷ (32 ∷ (52 ∷ (32 ∷ (116 ∷ (115 ∷ (100 ∷ (105 ∷ (32 ∷ (51 ∷ (48 ∷ (48 ∷ (32 ∷ (116 ∷ (115 ∷ (100 ∷ (105 ∷ (32 ∷ (51 ∷ (48 ∷ (48 ∷ [])))))))))))))))))))))))))))))))))))))))))))))))))))))))))))) ≡ Unknown)
+    × (callOf (115 ∷ (116 ∷ (97 ∷ (114 ∷ (116 ∷ (32 ∷ (50 ∷ (48 ∷ (32 ∷ (48 ∷ (32 ∷ (50 ∷ (48 ∷ (32 ∷ (52 ∷ (48 ∷ (48 ∷ (32 ∷ (49 ∷ (32 ∷ (49 ∷ (48 ∷ (48 ∷ (48 ∷ (48 ∷ (32 ∷ (49 ∷ (32 ∷ (50 ∷ (32 ∷ (50 ∷ (44 ∷ (53 ∷ (32 ∷ (110 ∷ (111 ∷ (110 ∷ (101 ∷ (32 ∷ (52 ∷ (32 ∷ (52 ∷ (32 ∷ (116 ∷ (115 ∷ (101 ∷ (116 ∷ (32 ∷ (50 ∷ (48 ∷ [])))))))))))))))))))))))))))))))))))))))))))))))))) ≡ Unknown)
+    × (callOf (115 ∷ (116 ∷ (97 ∷ (114 ∷ (116 ∷ (32 ∷ (50 ∷ (48 ∷ (32 ∷ (48 ∷ (32 ∷ (50 ∷ (48 ∷ (32 ∷ (52 ∷ (48 ∷ (48 ∷ (32 ∷ (49 ∷ (32 ∷ (49 ∷ (48 ∷ (48 ∷ (48 ∷ (48 ∷ (32 ∷ (49 ∷ (32 ∷ (50 ∷ (32 ∷ (50 ∷ (44 ∷ (53 ∷ (32 ∷ (110 ∷ (111 ∷ (110 ∷ (101 ∷ (32 ∷ (52 ∷ (32 ∷ (52 ∷ (32 ∷ (116 ∷ (115 ∷ (100 ∷ (105 ∷ (32 ∷ (52 ∷ (50 ∷ (57 ∷ (52 ∷ (57 ∷ (54 ∷ (55 ∷ (50 ∷ (57 ∷ (54 ∷ [])))))))))))))))))))))))))))))))))))))))))))))))))))))))))) ≡ Unknown)
+unfolding pick less same said spaces letters begins ends ahead beginOf begun wordsBehind word equal digit
+    allDigits valueOn noNumber number readOn decimal nibble allHex dash isOctets entry listed closing listOn list
+    either queue room unserved service access called named numbers pair isMasters isPoints standard tsdiOf startPairs
+    isSite isStart isPointed isRequest isSubmit isHeard isFrame isClocked isCollect plainOf clockedOf callOf
+pairs = (refl, refl, refl, refl, refl)

@@ -18,6 +18,10 @@ returns-3 : tie.Need-returns-3
 unfolding isStart
 returns-3 c = search asked depth 20
 
+returns-4 : tie.Need-returns-4
+unfolding isStart
+returns-4 c = search asked depth 20
+
 pub is-start-spec : {M : Type 1} → statement M
 is-start-spec =
     tie.close
@@ -25,7 +29,9 @@ is-start-spec =
     (λ c. search needs)
     (λ c κs. tt)
     returns
-    (λ c κs. omega arith)
-    returns-2
     (λ c κs. tt)
-    returns-3)
+    returns-2
+    (λ c κs. omega arith)
+    returns-3
+    (λ c κs. tt)
+    returns-4)

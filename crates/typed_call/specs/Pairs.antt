@@ -1,0 +1,25 @@
+-- The replay script, "As the requests of document 02 land": "What a request adds stands behind today's words as pairs of
+-- words, a name and its value, in the order given here". The pairs of each line in their order, the first behind the
+-- line's words and each behind the one before it, and where the line ends: behind its last pair. Assumes nothing.
+use Prim.Native.Nat.{ℕ}
+use mathlib.Core.Bool.{Bool, false}
+use mathlib.Core.List.{List, [], _∷_}
+use Rattle.choice.specs.Choice.{pick, same, said}
+use Rattle.times.specs.Times.{standard}
+use Rattle.typed.specs.declared.places.Pair.{Pair}
+use Rattle.typed.specs.Words.{words}
+use Rattle.typed.specs.Places.{LONG, pair}
+use Rattle.typed_call.specs.Table as Table
+
+-- ---- "The pairs of `start` in order: `tsdi`"
+-- "tsdi"
+abbrev pub w-tsdi : List ℕ
+w-tsdi = 0x74 ∷ (0x73 ∷ (0x64 ∷ (0x69 ∷ [])))
+
+-- "`tsdi N` (0..4294967295, as other settings)"
+unfoldable pub tsdiOf : List ℕ → Pair
+tsdiOf l = pair l Table.STARTWORDS w-tsdi LONG (standard .tsdi .0)
+
+-- the pairs of a start fit their places, and the line ends behind the last
+unfoldable pub startPairs : List ℕ → Bool
+startPairs l = pick (said (tsdiOf l .number .good)) (same (words l) (tsdiOf l .behind)) false
