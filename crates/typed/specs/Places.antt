@@ -93,11 +93,11 @@ access w = pick (said (dash w)) (number DASHED) (decimal w SHORT)
 -- ---- what fits its place
 -- a line's first word is a call's
 unfoldable pub called : List ℕ → List ℕ → Bool
-called l name = said (equal (word l 0) name)
+called l name = equal (word l 0) name
 
 -- and it has as many words as that call
 unfoldable pub named : List ℕ → List ℕ → ℕ → Bool
-named l name n = pick (same (words l) n) (said (equal (word l 0) name)) false
+named l name n = pick (same (words l) n) (said (called l name)) false
 
 -- some words from one on are numbers of at most a greatest
 unfoldable pub numbers : List ℕ → ℕ → ℕ → ℕ → Bool

@@ -111,7 +111,7 @@ pub fn named(s: &[u8], name: &[u8], n: usize) -> bool
     ensures { λ r. ⌜ r ≡ Places·named (now (s .entry)) (now (name .entry)) n ⌝ }
 {
     if words::count(s) == n {
-        return words::equal(words::word(s, 0), name);
+        return called(s, name);
     }
     false
 }

@@ -11,7 +11,7 @@ use Rattle.times.specs.Times.{standard}
 use Rattle.typed.specs.declared.places.Pair.{Pair}
 use Rattle.typed.specs.Digits.{number}
 use Rattle.typed.specs.Words.{words, word, equal}
-use Rattle.typed.specs.Places.{LONG, called, named, numbers, pair}
+use Rattle.typed.specs.Places.{LONG, named, numbers, pair}
 use Rattle.typed.proofs.words.Last.{no-word}
 use Rattle.typed_call.specs.Table as Table
 use Rattle.typed_call.specs.Pairs.{w-tsdi, tsdiOf, startPairs}
@@ -46,7 +46,7 @@ unfolding number
 out-standard l e = ap (λ (p : Pair). p .number .value) e
 
 -- the first word and the count of words, in either order
-turned : (a b x : Bool) → pick (said a) (pick (said b) x false) false ≡ pick (said (pick b a false)) x false
+turned : (a b x : Bool) → pick (said a) (pick (said b) x false) false ≡ pick (said (pick b (said a) false)) x false
 unfolding pick said
 turned true true x = refl
 turned true false x = refl
@@ -55,7 +55,7 @@ turned false false x = refl
 
 pub as-before : (l : List ℕ) → words l ≤ Table.STARTWORDS
     → (isStart l ≡ baseStart l) × (settingsOf l .tsdi .0 ≡ standard .tsdi .0)
-unfolding isStart baseStart settingsOf called named
+unfolding isStart baseStart settingsOf named
 as-before l h =
     let e = left-out l h in
     (rw (out-ends l e) (turned _ _ _), out-standard l e)

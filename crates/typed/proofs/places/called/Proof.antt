@@ -1,11 +1,10 @@
 -- `typed::places::called` meets its contract: the first word is the name. Assumes nothing.
-use Rattle.choice.specs.Choice.{said}
 use Rattle.typed.specs.Places.{called}
 use Rattle.typed.proofs.places.called.Statement.{statement}
 use Rattle.typed.proofs.places.called.Tie as tie
 
 returns : tie.Need-returns
-unfolding called said
+unfolding called
 returns c =
     let after-word : tie.After-word = search depth 0 in
     rw (after-word .word .ensures) at (c .equal .ensures)

@@ -10,11 +10,9 @@ use Rattle.typed.proofs.places.named.Tie as tie
 returns : tie.Need-returns
 unfolding named said
 returns c =
-    let after-word : tie.After-word = search depth 0 in
     let then1 : tie.Then1 = search depth 0 in
     let after-count : tie.After-count = search depth 0 in
-    if-same _ (sym (after-count .count .ensures) ∙ then1 .if1 .taken)
-    (rw (after-word .word .ensures) at (c .equal .ensures))
+    if-same _ (sym (after-count .count .ensures) ∙ then1 .if1 .taken) (c .called .ensures)
 
 returns-2 : tie.Need-returns-2
 unfolding named
@@ -23,4 +21,4 @@ returns-2 c =
     unless-same _ (λ e. c .if1 .left (after-count .count .ensures ∙ e)) refl
 
 pub named-spec : {M : Type 1} → statement M
-named-spec = tie.close (tie.spec (λ c κs. tt) (λ c κs. tt) (λ c κs. tt) returns returns-2)
+named-spec = tie.close (tie.spec (λ c κs. tt) (λ c κs. tt) returns returns-2)
