@@ -87,22 +87,27 @@ fn longest_replies(settings: &Settings, calls: &mut Vec<String>) {
     }
 }
 
-/// TSDI around each time that it is held against, 33 + TSM, min TSDR and max TSDR, and around what TSL allows and its
-/// bound; the others in any order of length.
+/// 33 + TSM, min TSDR and max TSDR in any order of length, each with TSDI around it.
 fn slow_initiators(calls: &mut Vec<String>) {
     for (tset, tqui) in [(20, 0), (20, 19), (255, 0), (255, 255)] {
         let line = 33 + Settings { tset, tqui, ..STANDARD }.tsm();
         for min_tsdr in [tqui.max(19) + 1, line - 1, line, line + 1, 2000] {
             for max_tsdr in [min_tsdr, min_tsdr + 1, min_tsdr.max(line), min_tsdr + 900, 64_000] {
-                for ttd in [0, 1, 700] {
-                    let settings = Settings { tset, tqui, min_tsdr, max_tsdr, ttd, ..STANDARD };
-                    for value in [1, line, min_tsdr, max_tsdr, longest_initiator(&settings), 65_535] {
-                        for tsdi in [value - 1, value, value + 1] {
-                            calls.push(settings_call(&Settings { tsdi, ..settings.clone() }, 2));
-                        }
-                    }
-                }
+                let settings = Settings { tset, tqui, min_tsdr, max_tsdr, ..STANDARD };
+                around_each_time(&settings, calls);
             }
+        }
+    }
+}
+
+/// TSDI around each time that it is held against, around what TSL allows, and around its bound.
+fn around_each_time(settings: &Settings, calls: &mut Vec<String>) {
+    for ttd in [0, 1, 700] {
+        let settings = Settings { ttd, ..settings.clone() };
+        let longest = longest_initiator(&settings);
+        let held = [1, 33 + settings.tsm(), settings.min_tsdr, settings.max_tsdr, longest, 65_535];
+        for tsdi in held.into_iter().flat_map(|time| [time - 1, time, time + 1]) {
+            calls.push(settings_call(&Settings { tsdi, ..settings.clone() }, 2));
         }
     }
 }

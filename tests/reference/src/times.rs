@@ -39,7 +39,7 @@ impl Settings {
 
     /// The longest of what the line, the responder and the initiator need: clause 5.5.3.7 of the standard.
     pub fn tid1(&self) -> u32 {
-        [33 + self.tsm(), self.min_tsdr, self.tsdi].into_iter().fold(0, u32::max)
+        (33 + self.tsm()).max(self.min_tsdr).max(self.tsdi)
     }
 
     pub fn tid2(&self) -> u32 {
