@@ -10,7 +10,7 @@ use Rattle.times.specs.Times.{outside, tsm, tid1, tid2, tsl, tto, tooLon
 use Rattle.times.specs.Times.{reckoned, standard}
 use Rattle.times.specs.Heeding.{Heeds, slow}
 
--- the times of a table
+-- TSM, Tid1, Tid2, TSL and TTO of a table, in turn
 abbrev times : ℕ → ℕ → ℕ → ℕ → ℕ → Times
 times m i j l o =
     record {
@@ -36,7 +36,7 @@ pub slow-initiator : reckoned (slow 20 500) 2 ≡ Reckon (times 42 500 400 555 5
 unfolding reckoned unruly unrulyDelays outside tooLong timesOf tsm tid1 tid2 tsl tto standard slow pick less said
 slow-initiator = refl
 
--- "20 also for TSDI out of range"; and TSL follows TSDI over its own bound, too
+-- "20 also for TSDI out of range", and for one in range by which TSL is over 65535
 pub too-slow : (reckoned (slow 20 65536) 2 ≡ Refused 20)
     × (reckoned (slow 20 65481) 2 ≡ Refused 20)
     × (reckoned (slow 20 65480) 2 ≡ Reckon (times 42 65480 400 65535 655350))
@@ -54,7 +54,8 @@ pub tid1-before : (s : Settings) → s .mintsdr .0 ≤ 33 + tsm s → s .tsdi .0
 unfolding tid1
 tid1-before s h g = omega (arith, h, g)
 
--- TSL is document 01's, by 33 + TSM, where TSDI is not longer than that or max TSDR: min TSDR does not move it
+-- TSL is document 01's, by 33 + TSM, where TSDI is not longer than the longer of that and max TSDR: min TSDR does not
+-- move it
 pub tsl-before : (s : Settings) → s .mintsdr .0 ≤ s .maxtsdr .0 → s .tsdi .0 ≤ max (s .maxtsdr .0) (33 + tsm s)
     → tsl s ≡ 2 * s .ttd .0 + 11 + tsm s + max (s .maxtsdr .0) (33 + tsm s)
 unfolding tid1 tsl

@@ -4,7 +4,7 @@ use Prim.Native.Nat.{ℕ, _+_, _≤_}
 use Rattle.times.specs.declared.Settings.{Settings}
 use Rattle.times.specs.Times.{tsm, standard}
 
--- a wait that is none too short for the line, for the responder or for the initiator
+-- a wait that is too short neither for the line nor for the responder nor for the initiator
 pub record Heeds (s : Settings) (wait : ℕ) : Type 0 where
   pub line : 33 + tsm s ≤ wait
   pub responder : s .mintsdr .0 ≤ wait
