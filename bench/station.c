@@ -60,9 +60,9 @@ MEASURED(hear, answer = cihlomet_hear(CIHLOMET_STATION(&station), clock_now, 1, 
 MEASURED(sent, answer = cihlomet_sent(CIHLOMET_STATION(&station), clock_now, ROWS(high), ROWS(low), OUT))
 MEASURED(slot, answer = cihlomet_slot(CIHLOMET_STATION(&station), clock_now, ROWS(high), ROWS(low), OUT))
 MEASURED(submit, accepted = cihlomet_submit_high(CIHLOMET_STATION(&station), CIHLOMET_SRD, NS, POINT, OTHER_POINT,
-                                                 data, UPDATE, ROWS(high)))
+                                                 0, 0, 1, data, UPDATE, ROWS(high)))
 MEASURED(submit_low, accepted = cihlomet_submit_low(CIHLOMET_STATION(&station), CIHLOMET_SRD, NS, POINT, OTHER_POINT,
-                                                    data, UPDATE, ROWS(low)))
+                                                    0, 0, 1, data, UPDATE, ROWS(low)))
 MEASURED(collect, collected = cihlomet_collect_high(CIHLOMET_STATION(&station), ROWS(high)))
 MEASURED(collect_low, collected = cihlomet_collect_low(CIHLOMET_STATION(&station), ROWS(low)))
 MEASURED(start, renewed = cihlomet_start(settings, TS, station.masters, station.started, station.marks,
@@ -97,8 +97,8 @@ static void submit_to(int upper, uint8_t service, size_t requests)
 {
     while (requests-- > 0) {
         accepted = (upper ? cihlomet_submit_high : cihlomet_submit_low)(
-            CIHLOMET_STATION(&station), service, NS, POINT, OTHER_POINT, data, UPDATE, upper ? high.row : low.row,
-            CIHLOMET_RECORD * places, upper ? high.area : low.area, CIHLOMET_DATA * places);
+            CIHLOMET_STATION(&station), service, NS, POINT, OTHER_POINT, 0, 0, 1, data, UPDATE,
+            upper ? high.row : low.row, CIHLOMET_RECORD * places, upper ? high.area : low.area, CIHLOMET_DATA * places);
         station.core = accepted.core;
     }
 }

@@ -77,22 +77,23 @@ static void start(uint8_t ts)
         putchar('\n');
 }
 
-/* Submits a request to the high queue; answer.place is the place that it takes. The data are copied there. */
-static void submit_high(uint8_t service, uint8_t destination, uint8_t to, uint8_t from, const uint8_t *data,
-                        size_t count)
+/* Submits a request to the high queue; answer.place is the place that it takes. The data are copied there. Its
+ * reference comes back with its confirmation; it asks for the station's retry limit. */
+static void submit_high(uint8_t service, uint8_t destination, uint8_t to, uint8_t from, uint32_t reference,
+                        const uint8_t *data, size_t count)
 {
-    struct cihlomet_accepted answer =
-        cihlomet_submit_high(CIHLOMET_STATION(&station), service, destination, to, from, data, count, HIGH);
+    struct cihlomet_accepted answer = cihlomet_submit_high(CIHLOMET_STATION(&station), service, destination, to, from,
+                                                           reference, 0, 1, data, count, HIGH);
     if (accepted(answer.refused, &answer.core))
         putchar('\n');
 }
 
-/* The same for the low queue: its own function, its own row. */
-static void submit_low(uint8_t service, uint8_t destination, uint8_t to, uint8_t from, const uint8_t *data,
-                       size_t count)
+/* The same for the low queue: its own function, its own row. This one has a retry limit of its own, and no reference. */
+static void submit_low(uint8_t service, uint8_t destination, uint8_t to, uint8_t from, uint8_t limit,
+                       const uint8_t *data, size_t count)
 {
-    struct cihlomet_accepted answer =
-        cihlomet_submit_low(CIHLOMET_STATION(&station), service, destination, to, from, data, count, LOW);
+    struct cihlomet_accepted answer = cihlomet_submit_low(CIHLOMET_STATION(&station), service, destination, to, from,
+                                                          0, limit, 0, data, count, LOW);
     if (accepted(answer.refused, &answer.core))
         putchar('\n');
 }
@@ -144,6 +145,8 @@ static void say_collected(const struct cihlomet_collected *c, const uint8_t *are
     say_points(c->to, c->from);
     printf(" %s %u ", statuses[c->status], c->count);
     say_octets(area + (size_t)CIHLOMET_DATA * c->place, c->length);
+    if (c->reference != 0)
+        printf(" ref %u", c->reference);
     putchar('\n');
 }
 
@@ -204,9 +207,9 @@ static void station_calls(void)
     static const uint8_t reply[] = {0x68, 7, 7, 0x68, 0x82, 0x87, 0x08, 62, 60, 0x60, 1, 0xEC, 0x16};
     start(3);
     start(2);
-    submit_high(CIHLOMET_SDN, 127, NO_POINT, NO_POINT, &nine, 1);
-    submit_high(CIHLOMET_SRD, 7, 60, 62, &one, 1);
-    submit_high(CIHLOMET_SRD, 2, NO_POINT, NO_POINT, NULL, 0);
+    submit_high(CIHLOMET_SDN, 127, NO_POINT, NO_POINT, 0, &nine, 1);
+    submit_high(CIHLOMET_SRD, 7, 60, 62, 4711, &one, 1);
+    submit_high(CIHLOMET_SRD, 2, NO_POINT, NO_POINT, 0, NULL, 0);
     frame(500, 1, update, sizeof update, question, sizeof question);
     frame(1000, 0, NULL, 0, token, sizeof token);
     sent(1185);
@@ -219,7 +222,7 @@ static void station_calls(void)
     collect_high();
     collect_high();
     collect_high();
-    submit_low(CIHLOMET_SRD, 7, 61, 62, NULL, 0);
+    submit_low(CIHLOMET_SRD, 7, 61, 62, 0, NULL, 0);
     show();
     reset();
     collect_low();

@@ -147,12 +147,13 @@ static void start(struct master *m, uint8_t ts)
     s->core = answer.core;
 }
 
-/* Submits an SRD to a lift: how far up it is to go, and where it is then comes back. 0 only fetches. */
+/* Submits an SRD to a lift: how far up it is to go, and where it is then comes back. 0 only fetches. Reference and
+ * limit are 0: the confirmations come in order, and each request asks for the station's retry limit. */
 static void ask_lift(struct master *m, bool high, uint8_t lift, uint8_t up)
 {
     struct queue *q = high ? &m->high : &m->low;
     struct cihlomet_accepted answer = (high ? cihlomet_submit_high : cihlomet_submit_low)(
-        CIHLOMET_STATION(&m->station), CIHLOMET_SRD, LIFT_STATION, lift, OWN_POINT, &up, up != 0, QUEUE(q));
+        CIHLOMET_STATION(&m->station), CIHLOMET_SRD, LIFT_STATION, lift, OWN_POINT, 0, 0, 1, &up, up != 0, QUEUE(q));
     must(answer.refused == 0, "submit was refused");
     m->station.core = answer.core;
 }
@@ -162,7 +163,7 @@ static void tell_all(struct master *m, uint8_t what)
 {
     struct cihlomet_accepted answer =
         cihlomet_submit_high(CIHLOMET_STATION(&m->station), CIHLOMET_SDN, EVERYBODY, CIHLOMET_NO_POINT,
-                             CIHLOMET_NO_POINT, &what, 1, QUEUE(&m->high));
+                             CIHLOMET_NO_POINT, 0, 0, 1, &what, 1, QUEUE(&m->high));
     must(answer.refused == 0, "submit was refused");
     m->station.core = answer.core;
 }

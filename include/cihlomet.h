@@ -86,11 +86,12 @@ size_t cihlomet_list(const uint8_t *capture, size_t capture_count, uint8_t *out,
  *  24  submit: access point out of range, or destination 63 but for SDN
  *  25  submit: service other than SDA, SDN, SRD
  *  26  submit: data plus access points over 246
+ *  30  submit: a retry limit over 15
  *  27  submit: every place in use
  *  28  collect: none confirmed
  *  29  collect: a status not named below
- * Start gives 20 and 21; submit 21, 29, 23 to 27; collect 21, 29, 28, 29; reset 21 and 29; hear, sent and slot 21, 22
- * and 29. Times are bit times; the bit clock has 32 bits and may wrap. */
+ * Start gives 20 and 21; submit 21, 29, 23 to 26, 30, 27; collect 21, 29, 28, 29; reset 21 and 29; hear, sent and slot
+ * 21, 22 and 29. Times are bit times; the bit clock has 32 bits and may wrap. */
 
 enum cihlomet_service { CIHLOMET_SDA = 3, CIHLOMET_SDN = 4, CIHLOMET_SRD = 12 };
 
@@ -120,15 +121,16 @@ enum cihlomet_phase {
 enum {
     CIHLOMET_ADDRESSES = 127, /* 0..126; as an address, nobody */
     CIHLOMET_POINTS = 64,
-    CIHLOMET_RECORD = 7,      /* octets of a row for each place */
+    CIHLOMET_RECORD = 13,     /* octets of a row for each place */
     CIHLOMET_DATA = 246,      /* octets of a data area for each place: those of place n start at 246 n */
     CIHLOMET_LONGEST = 255,   /* the longest frame, and the least output of hear, sent and slot */
     CIHLOMET_MARK_UNKNOWN = 2 /* a frame count mark that is no bit */
 };
 
-/* A station's settings; `retries` is the retry limit. With TSM = 2 + 2 tset + tqui a request or token waits Tid1, the
- * longest of 33 + TSM, min_tsdr and tsdi; one that follows an SDN of the same hold waits Tid2, the longer of 33 + TSM
- * and max_tsdr. The slot time, which the caller keeps, is TSL = 2 ttd + 11 + TSM + the longer of max_tsdr and Tid1. */
+/* A station's settings; `retries` is the retry limit of requests that ask for the station's. With TSM = 2 + 2 tset + tqui
+ * a request or token waits Tid1, the longest of 33 + TSM, min_tsdr and tsdi; one that follows an SDN of the same hold
+ * waits Tid2, the longer of 33 + TSM and max_tsdr. The slot time, which the caller keeps, is TSL = 2 ttd + 11 + TSM + the
+ * longer of max_tsdr and Tid1. */
 struct cihlomet_settings {
     uint32_t tset, tqui, min_tsdr, max_tsdr, ttd, ttr, retries, tsdi;
 };
@@ -177,10 +179,12 @@ struct cihlomet_accepted {
 };
 
 /* What collect answers: a request as it was submitted, its place's number, the length of the data that stand
- * there, the status, and the count of its sendings. When refused these are 0, an access point CIHLOMET_NO_POINT,
- * and the status CIHLOMET_WAITING. */
+ * there, the status, and the count of its sendings. The reference is the one that submit was given; the limit is the
+ * one that the request went by, and asks is 1 if it asked for the station's, else 0. When refused these are 0, an
+ * access point CIHLOMET_NO_POINT, and the status CIHLOMET_WAITING. */
 struct cihlomet_collected {
-    uint8_t refused, place, service, destination, to, from, length, status, count;
+    uint8_t refused, place, service, destination, to, from, length, status, count, limit, asks;
+    uint32_t reference;
     struct cihlomet_core core;
 };
 
@@ -203,8 +207,8 @@ struct cihlomet_answer {
 };
 
 /* The standard settings: Tset 20, Tqui 0, min TSDR 20, max TSDR 400, TTD 1, TTR 10000, TSDI 0, and no retries: a
- * request that is lost is confirmed NA after one sending. A caller who wants retries sets them before it starts a
- * station. */
+ * request that asks for the station's limit and is lost is confirmed NA after one sending. A caller who wants retries
+ * sets them before it starts a station, or gives the request a limit of its own. */
 struct cihlomet_settings cihlomet_standard(void);
 
 /* Starts a station with a set of masters, active access points and rows of `high` and `low` places: fills started,
@@ -214,16 +218,20 @@ struct cihlomet_renewed cihlomet_start(struct cihlomet_settings settings, uint8_
                                        size_t high, size_t low);
 
 /* Submits a request to the high queue, or to the low one, whose row and data area are lent; to and from are the
- * access points of destination and source. */
+ * access points of destination and source. The reference is the caller's own, of any value, and is handed back with
+ * the confirmation. The request is sent at most `limit` times more, 0 to 15, or, where asks is not 0, as often as the
+ * station's setting `retries` says; then the limit given is not looked at. */
 struct cihlomet_accepted cihlomet_submit_high(struct cihlomet_core core, const uint8_t *masters,
                                               const uint8_t *started, const uint8_t *marks, const uint8_t *points,
                                               const uint8_t *memory, uint8_t service, uint8_t destination, uint8_t to,
-                                              uint8_t from, const uint8_t *data, size_t data_count, uint8_t *row,
+                                              uint8_t from, uint32_t reference, uint8_t limit, uint8_t asks,
+                                              const uint8_t *data, size_t data_count, uint8_t *row,
                                               size_t row_count, uint8_t *area, size_t area_count);
 struct cihlomet_accepted cihlomet_submit_low(struct cihlomet_core core, const uint8_t *masters,
                                              const uint8_t *started, const uint8_t *marks, const uint8_t *points,
                                              const uint8_t *memory, uint8_t service, uint8_t destination, uint8_t to,
-                                             uint8_t from, const uint8_t *data, size_t data_count, uint8_t *row,
+                                             uint8_t from, uint32_t reference, uint8_t limit, uint8_t asks,
+                                             const uint8_t *data, size_t data_count, uint8_t *row,
                                              size_t row_count, uint8_t *area, size_t area_count);
 
 /* Hands back the oldest confirmed request of a queue and frees its place. */

@@ -77,12 +77,13 @@ pub data Reply : Type 0 where
 -- premise of each is the promise of the function of its name, word for word; submit and collect stand for those of the
 -- high queue and those of the low one, and the call frame is `cihlomet_hear`
 pub data Makes (k : Keeps) : Call → List ℕ → Reply → Keeps → Type 0 where
-  by-submit : (p : Priority) (service destination to from : ℕ) (x : List ℕ) {a : FlatAccepted} {row area : List ℕ}
+  by-submit : (p : Priority) (service destination to from reference limit asks : ℕ) (x : List ℕ) {a : FlatAccepted}
+      {row area : List ℕ}
       → lodged a (k .masters) (k .started) (k .marks) (k .points) (k .memory) row area
       ≡ submitting (k .core) p
-      (Calls.submit p (requestFrom service destination to from) x
+      (Calls.submit p (requestFrom service destination to from reference limit asks) x
       (lent p (stateIn (k .core) (k .masters) (k .started) (k .marks) (k .points) (k .memory)) (rowFor p k)))
-      → Makes k (submit p (requestFrom service destination to from) x) [] (takes a)
+      → Makes k (submit p (requestFrom service destination to from reference limit asks) x) [] (takes a)
       (keeping p (a .core) (rows row area) k)
   by-frame : (clock room : ℕ) (first second octets out : List ℕ) {a : FlatAnswer} {masters marks memory : List ℕ}
       {high low : Rows} {out′ : List ℕ}

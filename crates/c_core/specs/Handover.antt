@@ -6,7 +6,7 @@ use mathlib.Core.Bool.{Bool, true, false}
 use mathlib.Core.List.{List}
 use Rattle.choice.specs.Choice.{pick, same}
 use Rattle.request.specs.declared.Record.{Record}
-use Rattle.request.specs.Record.{WAITING}
+use Rattle.request.specs.Record.{WAITING, flagOctet, flagged}
 use Rattle.state.specs.declared.Priority.{Priority}
 use Rattle.state.specs.declared.Core.{Core}
 use Rattle.state.specs.declared.Kept.{Kept}
@@ -37,8 +37,8 @@ stateIn n masters started marks points octets =
       memory = record { kept = keptIn n; octets = octets };
     }
 
-unfoldable pub requestFrom : ℕ → ℕ → ℕ → ℕ → Record
-requestFrom service destination to from =
+unfoldable pub requestFrom : ℕ → ℕ → ℕ → ℕ → ℕ → ℕ → ℕ → Record
+requestFrom service destination to from reference limit asks =
     record {
       service = service;
       destination = record { 0 = destination };
@@ -47,6 +47,9 @@ requestFrom service destination to from =
       length = 0;
       status = WAITING;
       count = 0;
+      reference = reference;
+      limit = limit;
+      asks = flagged asks;
     }
 
 unfoldable pub roomOf : ℕ → Bool
@@ -76,6 +79,9 @@ flatCollected n a =
       length = a .entry .length;
       status = a .entry .status;
       count = a .entry .count;
+      limit = a .entry .limit;
+      asks = flagOctet (a .entry .asks);
+      reference = a .entry .reference;
       core = numbersAfter n (a .refused) (a .state .core) (a .state .memory .kept);
     }
 

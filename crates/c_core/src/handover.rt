@@ -29,7 +29,7 @@ pub struct FlatAccepted {
     pub core: Numbers,
 }
 
-// What collect answers: the refusal or 0, and the record handed back with its place's number.
+// What collect answers: the refusal or 0, and the record handed back with its place's number, its reference last.
 #[repr(C)]
 pub struct FlatCollected {
     pub refused: u8,
@@ -41,6 +41,9 @@ pub struct FlatCollected {
     pub length: u8,
     pub status: u8,
     pub count: u8,
+    pub limit: u8,
+    pub asks: u8,
+    pub reference: u32,
     pub core: Numbers,
 }
 
@@ -89,8 +92,16 @@ pub fn state_in(
 }
 
 // The request that numbers mean, as submit takes it.
-pub fn request_from(service: u8, destination: u8, to: u8, from: u8) -> Record
-    ensures { λ r. ⌜ r ≡ requestFrom service destination to from ⌝ }
+pub fn request_from(
+    service: u8,
+    destination: u8,
+    to: u8,
+    from: u8,
+    reference: u32,
+    limit: u8,
+    asks: u8,
+) -> Record
+    ensures { λ r. ⌜ r ≡ requestFrom service destination to from reference limit asks ⌝ }
 {
     Record {
         service,
@@ -100,6 +111,9 @@ pub fn request_from(service: u8, destination: u8, to: u8, from: u8) -> Record
         length: 0,
         status: request::WAITING,
         count: 0,
+        reference,
+        limit,
+        asks: request::flagged(asks),
     }
 }
 
@@ -152,6 +166,9 @@ pub fn collected(n: Numbers, a: HandedBack) -> FlatCollected
         length: entry.length,
         status: entry.status,
         count: entry.count,
+        limit: entry.limit,
+        asks: request::flag(entry.asks),
+        reference: entry.reference,
         core: numbers_after(n, a.refused, core, kept),
     }
 }

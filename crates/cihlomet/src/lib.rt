@@ -179,6 +179,9 @@ pub extern "C" fn cihlomet_submit_high(
     destination: u8,
     to: u8,
     from: u8,
+    reference: u32,
+    limit: u8,
+    asks: u8,
     data: &[u8],
     row: &mut [u8],
     area: &mut [u8],
@@ -186,12 +189,13 @@ pub extern "C" fn cihlomet_submit_high(
     ensures { λ a. ⌜ lodged a (now (masters .entry)) (now (started .entry)) (now (marks .entry)) (now (points .entry))
         (now (memory .entry)) (now (row .exit)) (now (area .exit))
         ≡ submitting n Priority.High
-        (Calls·submit Priority.High (requestFrom service destination to from) (now («data» .entry))
+        (Calls·submit Priority.High (requestFrom service destination to from reference limit asks)
+        (now («data» .entry))
         (lent Priority.High
         (stateIn n (now (masters .entry)) (now (started .entry)) (now (marks .entry)) (now (points .entry))
         (now (memory .entry))) (rows (now (row .entry)) (now (area .entry))))) ⌝ }
 {
-    let r = handover::request_from(service, destination, to, from);
+    let r = handover::request_from(service, destination, to, from, reference, limit, asks);
     queues::submit(
         Priority::High,
         n,
@@ -220,6 +224,9 @@ pub extern "C" fn cihlomet_submit_low(
     destination: u8,
     to: u8,
     from: u8,
+    reference: u32,
+    limit: u8,
+    asks: u8,
     data: &[u8],
     row: &mut [u8],
     area: &mut [u8],
@@ -227,12 +234,13 @@ pub extern "C" fn cihlomet_submit_low(
     ensures { λ a. ⌜ lodged a (now (masters .entry)) (now (started .entry)) (now (marks .entry)) (now (points .entry))
         (now (memory .entry)) (now (row .exit)) (now (area .exit))
         ≡ submitting n Priority.Low
-        (Calls·submit Priority.Low (requestFrom service destination to from) (now («data» .entry))
+        (Calls·submit Priority.Low (requestFrom service destination to from reference limit asks)
+        (now («data» .entry))
         (lent Priority.Low
         (stateIn n (now (masters .entry)) (now (started .entry)) (now (marks .entry)) (now (points .entry))
         (now (memory .entry))) (rows (now (row .entry)) (now (area .entry))))) ⌝ }
 {
-    let r = handover::request_from(service, destination, to, from);
+    let r = handover::request_from(service, destination, to, from, reference, limit, asks);
     queues::submit(
         Priority::Low,
         n,

@@ -1,32 +1,63 @@
 -- The end of a request and what follows it, from the confirmation and the act after it. Assumes nothing.
 use Prim.Native.Nat.{ℕ, _<_, _≤_}
 use mathlib.Core.Bool.{false}
-use mathlib.Core.Path.{_≡_, refl, sym, ap}
+use mathlib.Core.Path.{_≡_, refl, sym, ap, _∙_}
 use mathlib.Core.List.{List, [], _∷_}
 use Rattle.choice.proofs.Rules.{if-less, unless-less}
+use Rattle.request.specs.declared.Record.{Record}
+use Rattle.request.proofs.Laws.{fit-limit}
 use Rattle.state.specs.declared.Core.{Core}
 use Rattle.state.specs.declared.Moved.{Moved}
 use Rattle.state.specs.declared.Outcome.{Outcome}
 use Rattle.state.specs.declared.Outcome.the-variants.{Replied, Lost}
 use Rattle.state.specs.declared.Priority.{Priority}
+use Rattle.state.specs.declared.Priority.the-variants.{High, Low}
 use Rattle.state.specs.declared.Verdict.{Verdict}
 use Rattle.state.specs.declared.Verdict.the-variants.{Plausible, Vain, Foreign}
-use Rattle.state.specs.World.{Rows, Site, Done, siteOf, done, andThen, withDoing, withCore}
-use Rattle.state.specs.Request.{closeOf, close, again}
+use Rattle.state.specs.World.{Rows, Site, Done, siteOf, done, andThen, queueOf, withDoing, withCore, rowsOf}
+use Rattle.state.specs.Request.{recordIn, recordOf, closeOf, close, again}
 use Rattle.state.specs.Hold.{choose, resting, rest, ended, retry, over, givenUp, concluded}
 use Rattle.state.specs.Told.{Closes, Does, telling, adds, untold}
+use Rattle.state.specs.Refusals.{Sited, rowBy, inFlight}
 use Rattle.serve.proofs.Telling.{lays-nothing}
+use Rattle.serve.proofs.Sited.{ready-high, ready-low, served-waits}
 
--- ---- slot expiry and the like: below the limit the same again, and then the request is lost
-pub retry-lost : (clock : ℕ) (s : Site) → s .core .settings .retries .0 < s .core .doing .sendings
-    → retry clock s ≡ ended Lost [] clock s
-unfolding retry
-retry-lost clock s h = sym (if-less _ h refl)
+-- ---- the record whose reply is awaited, by the row of its queue; its limit is at most 15
+row-by : (p : Priority) (c : Core) (masters marks : List ℕ) (high low : Rows)
+    → rowsOf p (siteOf c masters marks high low) .row ≡ rowBy p (high .row) (low .row)
+unfolding rowsOf rowBy
+row-by High c masters marks high low = refl
+row-by Low c masters marks high low = refl
 
-pub retry-again : (clock : ℕ) (s : Site) → s .core .doing .sendings ≤ s .core .settings .retries .0
-    → retry clock s ≡ again s
-unfolding retry
-retry-again clock s h = sym (unless-less _ h refl)
+module _ (c : Core) (masters marks : List ℕ) (high low : Rows) where
+  pub in-flight : inFlight c (high .row) (low .row) ≡ recordOf (c .doing .served) (siteOf c masters marks high low)
+  unfolding inFlight recordOf recordIn
+  in-flight = rw (row-by (c .doing .served) c masters marks high low)
+
+limit-by : (p : Priority) (c : Core) (high low : Rows) → c .doing .served ≡ p → Sited c high low
+    → 0 < queueOf (c .doing .served) c .unconfirmed → inFlight c (high .row) (low .row) .limit ≤ 15
+unfolding inFlight rowBy recordIn queueOf
+limit-by High c high low e s h =
+    rw e (fit-limit _ _ _ (ready-high s (served-waits c High e h) .fit))
+limit-by Low c high low e s h =
+    rw e (fit-limit _ _ _ (ready-low s (served-waits c Low e h) .fit))
+
+pub limit-small : (c : Core) (high low : Rows) {r : Record} → r ≡ inFlight c (high .row) (low .row) → Sited c high low
+    → 0 < queueOf (c .doing .served) c .unconfirmed → r .limit ≤ 15
+limit-small c high low e s h = rw e (limit-by _ c high low refl s h)
+
+-- ---- slot expiry and the like: up to its limit the same again, and then the request is lost
+module _ (clock : ℕ) (c : Core) (masters marks : List ℕ) (high low : Rows) {r : Record}
+    (e : r ≡ inFlight c (high .row) (low .row)) where
+  pub retry-lost : r .limit < c .doing .sendings
+      → retry clock (siteOf c masters marks high low) ≡ ended Lost [] clock (siteOf c masters marks high low)
+  unfolding retry
+  retry-lost h = sym (if-less _ (rw (e ∙ in-flight c masters marks high low) at h) refl)
+
+  pub retry-again : c .doing .sendings ≤ r .limit
+      → retry clock (siteOf c masters marks high low) ≡ again (siteOf c masters marks high low)
+  unfolding retry
+  retry-again h = sym (unless-less _ (rw (e ∙ in-flight c masters marks high low) at h) refl)
 
 module _ {out out′ : List ℕ} {r : Moved} {masters marks : List ℕ} {high low : Rows} where
   -- ---- an act behind a confirmation, which tells nothing

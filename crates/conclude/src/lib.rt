@@ -109,7 +109,8 @@ pub fn finish(
     )
 }
 
-// A refused frame, any other reply or slot expiry while a reply is awaited.
+// A refused frame, any other reply or slot expiry while a reply is awaited: the same again, up to the limit of the
+// request's record.
 pub fn retry(
     clock: BitTime,
     c: Core,
@@ -130,9 +131,9 @@ pub fn retry(
         (now (marks .exit)) (rows (now (high .exit)) (now (harea .exit))) (rows (now (low .exit)) (now (larea .exit)))
         (now (out .exit)) ⌝ }
 {
-    let settings = c.settings;
     let doing = c.doing;
-    if settings.retries.0 < doing.sendings as u32 {
+    let r = refusals::in_flight(c, high, low);
+    if r.limit < doing.sendings {
         return finish(
             Outcome::Lost,
             b"",

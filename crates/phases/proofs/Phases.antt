@@ -1,6 +1,6 @@
 -- What slot expiry, "sent" and a frame are in each phase, for a phase that is known by an equation. Assumes nothing.
 use Prim.Native.Nat.{ℕ}
-use mathlib.Core.Path.{_≡_, refl}
+use mathlib.Core.Path.{_≡_}
 use mathlib.Core.List.{List, []}
 use lib.ListN.{length}
 use Rattle.frame.specs.declared.Answer.{Answer}
@@ -8,18 +8,13 @@ use Rattle.frame.specs.declared.Answer.the-variants.{Refused, Read}
 use Rattle.frame.specs.declared.Fields.{Fields}
 use Rattle.frame.specs.declared.Part.{Part}
 use Rattle.frame.specs.Reading.{shown}
-use Rattle.request.specs.declared.Record.{Record}
-use Rattle.state.specs.declared.Core.{Core}
 use Rattle.state.specs.declared.Phase.{Phase}
 use Rattle.state.specs.declared.Phase.the-variants.{Idle, Awaited, Sdn, Check, ToSelf}
-use Rattle.state.specs.declared.Priority.{Priority}
-use Rattle.state.specs.declared.Priority.the-variants.{High, Low}
 use Rattle.state.specs.declared.Outcome.the-variants.{Gone}
-use Rattle.state.specs.World.{Rows, Site, Done, siteOf, still, rowsOf}
-use Rattle.state.specs.Request.{recordIn, recordOf, judged}
+use Rattle.state.specs.World.{Site, Done, still}
+use Rattle.state.specs.Request.{recordOf, judged}
 use Rattle.state.specs.Pass.{recheck}
 use Rattle.state.specs.Hold.{begin, ended, retry, concluded}
-use Rattle.state.specs.Refusals.{rowBy, inFlight}
 use Rattle.state.specs.Calls.{slotIn, sentIn, awaitedRead}
 
 module _ (clock : ℕ) (s : Site) {p : Phase} where
@@ -62,18 +57,6 @@ module _ (clock : ℕ) (s : Site) {p : Phase} where
   pub sent-self : p ≡ ToSelf → sentIn p clock s ≡ begin clock s
   unfolding sentIn
   sent-self e = rw e
-
--- the record whose reply is awaited, by the row of its queue
-row-by : (p : Priority) (c : Core) (masters marks : List ℕ) (high low : Rows)
-    → rowsOf p (siteOf c masters marks high low) .row ≡ rowBy p (high .row) (low .row)
-unfolding rowsOf rowBy
-row-by High c masters marks high low = refl
-row-by Low c masters marks high low = refl
-
-module _ (c : Core) (masters marks : List ℕ) (high low : Rows) where
-  pub in-flight : inFlight c (high .row) (low .row) ≡ recordOf (c .doing .served) (siteOf c masters marks high low)
-  unfolding inFlight recordOf recordIn
-  in-flight = rw (row-by (c .doing .served) c masters marks high low)
 
 -- a frame while a reply is awaited, by how it was read
 module _ (clock : ℕ) (s : List ℕ) (x : Site) {r : Answer} where

@@ -44,6 +44,10 @@ w-refused = 0x72 ∷ (0x65 ∷ (0x66 ∷ (0x75 ∷ (0x73 ∷ (0x65 ∷ (0x64 ∷
 abbrev pub w-ok : List ℕ
 w-ok = 0x6F ∷ (0x6B ∷ [])
 
+-- "ref"
+abbrev pub w-ref : List ℕ
+w-ref = 0x72 ∷ (0x65 ∷ (0x66 ∷ []))
+
 -- " send "
 abbrev pub w-send : List ℕ
 w-send = 0x20 ∷ (0x73 ∷ (0x65 ∷ (0x6E ∷ (0x64 ∷ (0x20 ∷ [])))))
@@ -187,6 +191,10 @@ indicating (Shown h p) octets =
 unfoldable pub doneLine : ℕ → List ℕ → Indication → List ℕ → List ℕ
 doneLine wait x i octets = w-ok ++ (sending wait x ++ (indicating i octets ++ newline))
 
+-- of order 6: "` ref N` at the end of its line unless N is 0"
+unfoldable pub referring : ℕ → List ℕ
+referring n = pick (same n 0) [] (spaced w-ref ++ spaced (numeral n))
+
 -- `ok PLACE SERVICE DA DSAP SSAP STATUS COUNT DATA`, the data being those of the place
 unfoldable pub collectedLine : ℕ → Record → List ℕ → List ℕ
 collectedLine place r area =
@@ -197,7 +205,8 @@ collectedLine place r area =
     ++ (spaced (pointWord (r .to .0))
     ++ (spaced (pointWord (r .from .0))
     ++ (spaced (statusWord (r .status))
-    ++ (spaced (numeral (r .count)) ++ (spaced (shown (part area (246 * place) (r .length))) ++ newline))))))))
+    ++ (spaced (numeral (r .count))
+    ++ (spaced (shown (part area (246 * place) (r .length))) ++ (referring (r .reference) ++ newline)))))))))
 
 -- "`MASTERS` ascending, joined by commas": those of the k addresses from one on, the first of all without a comma
 unfoldable pub joined : Bool → ℕ → ℕ → List ℕ → List ℕ

@@ -12,7 +12,7 @@ ghost use Rattle.typed.specs.Digits.{shown as Digits·shown};
 ghost use Rattle.queue.specs.Queue.{AREA};
 ghost use Rattle.printed.specs.Numeral.{numeral};
 ghost use Rattle.printed.specs.Printed.{spaced, newline, comma, w-ok, serviceWord, statusWord, phaseWord, pointWord};
-ghost use Rattle.printed.specs.Printed.{collectedLine, joined as Printed·joined, nsOf, shownLine};
+ghost use Rattle.printed.specs.Printed.{referring, collectedLine, joined as Printed·joined, nsOf, shownLine};
 use frame::Address;
 use printed::numeral;
 use printed::phrases;
@@ -89,28 +89,42 @@ fn phase(p: Phase, out: &mut [u8], at: usize) -> usize
     phrases::lay_word(phase_word(p), out, at)
 }
 
-// Lays how a request ended: its status, the count of its sendings, its data, and the line's end.
+// Lays a request's reference, unless that is 0, and the line's end.
+fn closing(reference: u32, out: &mut [u8], at: usize) -> usize
+    requires { ⌜ at + 16 ≤ length (now out) ⌝ }
+    ensures { λ r. ⌜ Lays (now (out .entry)) at (referring reference ++ newline) 16 r (now (out .exit)) ⌝ }
+{
+    if reference == 0 {
+        return laid::lay(b"\n", out, at);
+    }
+    let second = laid::lay(b" ref ", out, at);
+    let third = numeral::put(reference, out, second);
+    laid::lay(b"\n", out, third)
+}
+
+// Lays how a request ended: its status, the count of its sendings, its data, its reference, and the line's end.
 fn ending(
     state: u8,
     count: u8,
     place: u8,
     size: u8,
+    reference: u32,
     area: &[u8],
     out: &mut [u8],
     at: usize,
 ) -> usize
-    requires { ⌜ at + 521 ≤ length (now out) ⌝ }
+    requires { ⌜ at + 536 ≤ length (now out) ⌝ }
     ensures { λ r. ⌜ Lays (now (out .entry)) at
         (spaced (statusWord state) ++
         (spaced (numeral count) ++
-        (spaced (Digits·shown (part (now (area .entry)) (AREA * place) size)) ++ newline))) 521 r
-        (now (out .exit)) ⌝ }
+        (spaced (Digits·shown (part (now (area .entry)) (AREA * place) size)) ++
+        (referring reference ++ newline)))) 536 r (now (out .exit)) ⌝ }
 {
     let second = status(state, out, at);
     let third = phrases::number(count, out, second);
     let start = queue::AREA * place as usize;
     let fourth = phrases::octets(area, start, size as usize, out, third);
-    laid::lay(b"\n", out, fourth)
+    closing(reference, out, fourth)
 }
 
 // Lays the line of collect, by the numbers of the record's fields.
@@ -123,6 +137,7 @@ fn row(
     state: u8,
     count: u8,
     size: u8,
+    reference: u32,
     area: &[u8],
     out: &mut [u8],
     at: usize,
@@ -138,7 +153,7 @@ fn row(
         (spaced (statusWord state) ++
         (spaced (numeral count) ++
         (spaced (Digits·shown (part (now (area .entry)) (AREA * place) size)) ++
-        newline))))))))) 600 r (now (out .exit)) ⌝ }
+        (referring reference ++ newline)))))))))) 600 r (now (out .exit)) ⌝ }
 {
     let second = laid::lay(b"ok", out, at);
     let third = phrases::number(place, out, second);
@@ -146,7 +161,7 @@ fn row(
     let fifth = phrases::number(destination, out, fourth);
     let sixth = phrases::point(to, out, fifth);
     let seventh = phrases::point(from, out, sixth);
-    ending(state, count, place, size, area, out, seventh)
+    ending(state, count, place, size, reference, area, out, seventh)
 }
 
 // Lays the line of collect.
@@ -161,6 +176,7 @@ pub fn collected(place: u8, r: Record, area: &[u8], out: &mut [u8], at: usize) -
     let state = r.status;
     let count = r.count;
     let size = r.length;
+    let reference = r.reference;
     row(
         place,
         kind,
@@ -170,6 +186,7 @@ pub fn collected(place: u8, r: Record, area: &[u8], out: &mut [u8], at: usize) -
         state,
         count,
         size,
+        reference,
         area,
         out,
         at,

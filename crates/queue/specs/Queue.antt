@@ -46,7 +46,7 @@ pub record Ruled (q : Queue) : Type 0 where
   pub turn : q .first < q .places
   pub used : q .confirmed + q .unconfirmed ≤ q .places
 
--- a record with a status, a count of sendings and n octets of data
+-- a record with a status, a count of sendings and n octets of data; the rest of it stays, the reference "untouched"
 unfoldable pub closed : Record → ℕ → ℕ → ℕ → Record
 closed r status count n =
     record {
@@ -57,6 +57,9 @@ closed r status count n =
       length = n;
       status = status;
       count = count;
+      reference = r .reference;
+      limit = r .limit;
+      asks = r .asks;
     }
 
 -- ---- submit
@@ -75,7 +78,7 @@ unfoldable pub take : Queue → Record → ℕ → Taken
 take q r n =
     record { refused = 0; place = place q (q .confirmed + q .unconfirmed); entry = waiting r n; queue = grown q }
 
--- 23 to 26, then 27, "every place in use"; or the place that the request takes, its record, and the queue with it
+-- 23 to 26 and 30, then 27, "every place in use"; or the place that the request takes, its record, and the queue with it
 unfoldable pub taken : ℕ → Queue → Record → ℕ → Taken
 taken ts q r n =
     pick (same (unfit ts r n) 0)

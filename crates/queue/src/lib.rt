@@ -164,6 +164,9 @@ pub fn close(r: Record, status: u8, count: u8, n: u8) -> Record
         length: n,
         status,
         count,
+        reference: r.reference,
+        limit: r.limit,
+        asks: r.asks,
     }
 }
 

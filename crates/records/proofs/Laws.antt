@@ -7,11 +7,12 @@ use mathlib.Core.List.{List, [], _∷_, _++_, append-assoc}
 use native.Mathlib.Omega.{arith}
 use lib.ListN.{length, getD, set, drop, replicate, length-append, length-replicate}
 use lib.Seq.{take-append-add, drop-append-add, getD-append-add}
-use Rattle.choice.specs.Choice.{pick}
+use Rattle.choice.specs.Choice.{pick, less}
 use Rattle.frame.specs.Reading.{octet}
 use Rattle.laid.specs.Laid.{laid}
 use Rattle.request.specs.declared.Record.{Record}
-use Rattle.request.specs.Record.{SIZE, octets, recordAt}
+use Rattle.request.specs.Record.{SIZE, referenceAt, referenceOctets, flagged, octets, recordAt}
+use Rattle.request.proofs.Laws.{length-octets, reference-whole, flag-whole}
 use Rattle.queue.specs.declared.Queue.{Queue}
 use Rattle.queue.specs.declared.Taken.{Taken}
 use Rattle.queue.specs.Queue.{AREA, Ruled, taken}
@@ -21,19 +22,18 @@ use Rattle.rows.proofs.Submitted.{room}
 use Rattle.records.specs.Records.{blank, rowOf, placed, filled}
 
 pub length-row : (row : List Record) → length (rowOf row) ≡ SIZE * length row
-unfolding rowOf octets
+unfolding rowOf
 length-row [] = refl
-length-row (r ∷ row) = simp length-append (omega (arith, length-row row))
+length-row (r ∷ row) = simp length-append (omega (arith, length-octets r, length-row row))
 
 -- ---- the record at a place
 behind : (r : Record) (l : List ℕ) (p k : ℕ) → octet (octets r ++ l) (SIZE * suc p + k) ≡ octet l (SIZE * p + k)
-unfolding octets
 behind r l p k =
-    let e : SIZE * suc p + k ≡ SIZE + (SIZE * p + k) = omega arith in
+    let e : SIZE * suc p + k ≡ length (octets r) + (SIZE * p + k) = omega (arith, length-octets r) in
     ap (λ (n : ℕ). octet (octets r ++ l) n) e ∙ getD-append-add (octets r) l (SIZE * p + k) 0
 
 next : (r : Record) (l : List ℕ) (p : ℕ) → recordAt (octets r ++ l) (SIZE * suc p) ≡ recordAt l (SIZE * p)
-unfolding recordAt
+unfolding recordAt referenceAt
 next r l p =
     cc (
       behind r l p 0,
@@ -43,14 +43,20 @@ next r l p =
       behind r l p 4,
       behind r l p 5,
       behind r l p 6,
+      behind r l p 7,
+      behind r l p 8,
+      behind r l p 9,
+      behind r l p 10,
+      behind r l p 11,
+      behind r l p 12,
     )
 
 first : (r : Record) (l : List ℕ) → recordAt (octets r ++ l) (SIZE * 0) ≡ r
-unfolding recordAt octets
-first r l = refl
+unfolding recordAt octets referenceAt referenceOctets
+first r l = rw (reference-whole (r .reference), flag-whole (r .asks))
 
 nothing : (p : ℕ) → recordAt [] p ≡ blank
-unfolding recordAt
+unfolding recordAt referenceAt flagged less
 nothing p = refl
 
 pub at-row : (row : List Record) (p : ℕ) → Rows.at (rowOf row) p ≡ getD row p blank
@@ -67,14 +73,13 @@ laid-next a l i u =
     rw (e, take-append-add a l i, drop-append-add a l (i + length u)) (append-assoc a _ _)
 
 put-first : (r h : Record) (l : List ℕ) → laid (octets h ++ l) (SIZE * 0) (octets r) ≡ octets r ++ l
-unfolding laid octets
+unfolding laid octets referenceOctets
 put-first r h l = refl
 
 put-next : (r h : Record) (l : List ℕ) (p : ℕ)
     → laid (octets h ++ l) (SIZE * suc p) (octets r) ≡ octets h ++ laid l (SIZE * p) (octets r)
-unfolding octets
 put-next r h l p =
-    let e : SIZE * suc p ≡ SIZE + SIZE * p = omega arith in
+    let e : SIZE * suc p ≡ length (octets h) + SIZE * p = omega (arith, length-octets h) in
     ap (λ (n : ℕ). laid (octets h ++ l) n (octets r)) e ∙ laid-next (octets h) l (SIZE * p) (octets r)
 
 pub put-row : (row : List Record) (p : ℕ) (r : Record) → p < length row
@@ -87,7 +92,7 @@ put-row (x ∷ row) (suc p) r h =
 
 -- ---- rows of records with the same octets are the same
 rest : (r : Record) (l : List ℕ) → drop SIZE (octets r ++ l) ≡ l
-unfolding octets
+unfolding octets referenceOctets
 rest r l = refl
 
 pub octets-tell : (a b : List Record) → rowOf a ≡ rowOf b → a ≡ b

@@ -49,7 +49,7 @@ pub counts-tells : Tells Counts (Is Counts) counts-vals
 counts-tells = LL.tells Q.the-type Q′.the-laws
 
 -- the place of a record within a row, in octets, is a usize
-pub far : (n i : ℕ) → Room Row n → i < n → i * 7 < 2 ^ 64
+pub far : (n i : ℕ) → Room Row n → i < n → i * 16 < 2 ^ 64
 far n i room within = omega (arith, within, room .1)
 
 -- what a branch on a number learns of its test

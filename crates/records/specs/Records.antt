@@ -1,6 +1,7 @@
 -- Document 01, "Station": a row of request records as a list of records, and the row of octets that it stands for, of
 -- which `rows` says what each call answers and leaves. Assumes nothing.
 use Prim.Native.Nat.{ℕ}
+use mathlib.Core.Bool.{false}
 use mathlib.Core.List.{List, [], _∷_, _++_}
 use Rattle.choice.specs.Choice.{pick, same}
 use Rattle.request.specs.declared.Record.{Record}
@@ -24,6 +25,9 @@ blank =
       length = 0;
       status = 0;
       count = 0;
+      reference = 0;
+      limit = 0;
+      asks = false;
     }
 
 -- the row, and the data area, when submit decided: as they were, or with the record, and its data, at the place taken

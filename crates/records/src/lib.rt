@@ -28,6 +28,9 @@ fn none() -> Record
         length: 0,
         status: 0,
         count: 0,
+        reference: 0,
+        limit: 0,
+        asks: false,
     }
 }
 

@@ -8,7 +8,8 @@ use Rattle.choice.specs.Choice.{pick, less, same, said, either}
 use Rattle.choice.proofs.Rules.{less-false, same-true, same-false, true-less, true-same, pick-true, pick-false}
 use Rattle.choice.proofs.Rules.{said-false}
 use Rattle.request.specs.declared.Record.{Record}
-use Rattle.request.specs.Record.{misaddressed, beyond, mispointed, unserved, extensions, overlong, unfit}
+use Rattle.request.specs.Record.{RETRIES, misaddressed, beyond, mispointed, unserved, extensions, overlong}
+use Rattle.request.specs.Record.{overlimit, unfit}
 
 abbrev Usual : ℕ → Type 0
 Usual p = either (less p 63) (same p 255) ≡ true
@@ -57,11 +58,17 @@ short : (to from n : ℕ) → n < 245 → overlong to from n ≡ false
 unfolding overlong
 short to from n l = pick-false _ _ (less-false (omega (arith, extensions-most to, extensions-most from)))
 
+bounded : (n : ℕ) → n ≤ RETRIES → overlimit n ≡ false
+unfolding overlimit
+bounded n l = pick-false _ _ (less-false l)
+
 pub fit : (ts : ℕ) (r : Record) (n : ℕ) → r .destination .0 < 127 → (r .destination .0 ≡ ts → ⊥) → Usual (r .to .0)
     → Usual (r .from .0)
-    → n < 245 → unserved (r .service) ≡ false → unfit ts r n ≡ 0
+    → n < 245 → r .limit ≤ RETRIES → unserved (r .service) ≡ false → unfit ts r n ≡ 0
 unfolding unfit
-fit ts r n l d u v h s =
+fit ts r n l d u v h b s =
     pick-false _ _ (said-false refl (addressed ts (r .destination .0) (r .service) l d))
     ∙ (pick-false _ _ (said-false refl (pointed (r .to .0) (r .from .0) (r .service) u v))
-    ∙ (pick-false _ _ (said-false refl s) ∙ pick-false _ _ (said-false refl (short (r .to .0) (r .from .0) n h))))
+    ∙ (pick-false _ _ (said-false refl s)
+    ∙ (pick-false _ _ (said-false refl (short (r .to .0) (r .from .0) n h))
+    ∙ pick-false _ _ (said-false refl (bounded (r .limit) b)))))

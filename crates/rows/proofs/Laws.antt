@@ -12,7 +12,7 @@ use Rattle.request.specs.declared.Record.{Record}
 use Rattle.laid.proofs.Laws.{length-laid}
 use Rattle.laid.proofs.Octets.{laid-part, before-part, behind-part}
 use Rattle.request.specs.Record.{SIZE, octets}
-use Rattle.request.proofs.Laws.{read-back, read-before, read-behind}
+use Rattle.request.proofs.Laws.{length-octets, read-back, read-before, read-behind}
 use Rattle.queue.specs.declared.Queue.{Queue}
 use Rattle.queue.specs.Queue.{AREA, misfit, unlike}
 use Rattle.rows.specs.Rows.{at, content, Lent, put, fill}
@@ -43,8 +43,8 @@ by-order {A = A} p j f g = by (less p j) refl
 
 -- ---- lengths are kept
 pub length-put : (row : List ℕ) (p : ℕ) (r : Record) → SIZE * p + SIZE ≤ length row → length (put row p r) ≡ length row
-unfolding put octets
-length-put row p r h = length-laid row (SIZE * p) (octets r) h
+unfolding put
+length-put row p r h = length-laid row (SIZE * p) (octets r) (rw (length-octets r) h)
 
 pub length-fill : (area : List ℕ) (p : ℕ) (x : List ℕ) → AREA * p + length x ≤ length area
     → length (fill area p x) ≡ length area

@@ -51,7 +51,7 @@ stored t x row area =
     (left t (put row (t .place) (t .entry)) (fill area (t .place) x))
     (left t row area)
 
--- 23 to 27, or the request taken: of a row that was not refused 21, and counts not refused 29
+-- 23 to 26, 30 and 27, or the request taken: of a row that was not refused 21, and counts not refused 29
 unfoldable pub submitted : ℕ → Queue → Record → List ℕ → List ℕ → List ℕ → Left Taken
 submitted ts q r x row area = stored (taken ts q r (length x)) x row area
 
@@ -79,7 +79,8 @@ handed q row = collected q (at row (q .first))
 abbrev pub pending : List ℕ → Queue → ℕ → Record
 pending row q k = at row (place q (q .confirmed + k))
 
--- none of the first n unconfirmed records is one that "submit would refuse for itself (23 to 26)"
+-- none of the first n unconfirmed records is one that "submit would refuse for itself (23 to 26)", and of order 6 30:
+-- "29 reads it too"
 unfoldable pub sound : ℕ → Queue → List ℕ → ℕ → Bool
 sound ts q row zero = true
 sound ts q row (suc n) =

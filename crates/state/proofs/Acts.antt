@@ -27,7 +27,7 @@ use Rattle.state.specs.declared.Outcome.the-variants.{Replied, Lost, Gon
 use Rattle.state.specs.World.{Site, Event, accepted, begins, ends, sends, confirmed, collected, indicated}
 use Rattle.state.specs.World.{resets, aRequest, aToken, withDoing, withStranger, withQueue, queueOf, withCore}
 use Rattle.state.specs.World.{rowsOf, withRows}
-use Rattle.state.specs.Request.{UNKNOWN, octetsIn, afterLast, waitFor, sendCore, once, statusOf, closeOf}
+use Rattle.state.specs.Request.{UNKNOWN, octetsIn, recordOf, afterLast, waitFor, sendCore, once, statusOf, closeOf}
 use Rattle.state.specs.Pass.{ns, tokenTo, passCore, without}
 use Rattle.state.specs.Hold.{choice, rest, beginning, admit}
 use Rattle.state.specs.Answering as A
@@ -134,7 +134,7 @@ pub data Act (k : Type 0) : Point → Site → Event → Point → Site → Type
   repasses : (s : Site) → (k → s .core .doing .phase ≡ Check) → s .core .doing .sendings < 3
       → Act k calm s (sends aToken (tokenTo (ns s) (s .core)) (waitFor (s .core) Other)) calm (sentAgain s)
   repeats : (y : Priority) (s : Site) → s .core .doing .served ≡ y → (k → s .core .doing .phase ≡ Awaited)
-      → s .core .doing .sendings ≤ s .core .settings .retries .0 → Act k calm s (nextSending y s) calm (sentAgain s)
+      → s .core .doing .sendings ≤ recordOf y s .limit → Act k calm s (nextSending y s) calm (sentAgain s)
   closes : (y : Priority) (p : Phase) (o : Outcome) (x : List ℕ) (s : Site) → s .core .doing .served ≡ y
       → (k → s .core .doing .phase ≡ p) → (k → Closing p o x)
       → Act k calm s (closing y o s) (choosing false) (closeOf y o x s .site)

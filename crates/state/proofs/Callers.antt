@@ -11,6 +11,7 @@ use Rattle.laid.specs.Laid.{laid}
 use Rattle.times.specs.declared.Settings.{Settings}
 use Rattle.ring.specs.Ring.{member}
 use Rattle.request.specs.declared.Record.{Record}
+use Rattle.request.specs.Record.{limited}
 use Rattle.rows.specs.Rows.{Left, left}
 use Rattle.state.specs.declared.Priority.{Priority}
 use Rattle.state.specs.declared.Priority.the-variants.{High, Low}
@@ -236,7 +237,7 @@ takes-same a b e = ap (λ (x : Reply). takenBy x a) e
 pub caller-demand-3 : {k m n o : Keeps} (s : Starts k) {before after : List Call} {r : Record} {x : List ℕ}
     {a : Accepted} → Chain Makes k before m → Makes m (submit High r x) [] (takes a) n → a .refused ≡ 0
     → Chain Makes n after o
-    → Served (lineLast (run before (worldFor k) .events) nobody .waiting) (s .settings .retries .0)
+    → Served (lineLast (run before (worldFor k) .events) nobody .waiting) (limited (s .settings .retries .0) r .limit)
     (fate (a .place) (run after (worldFor n) .events) newborn)
 unfolding replyOf starts-begun
 caller-demand-3 {k = k} {m = m} s {before = before} {after = after} {r = r} {x = x} {a = a} c y e d =

@@ -6,7 +6,6 @@ use mathlib.Core.Path.{_≡_, refl, sym, ap, _∙_}
 use mathlib.Core.List.{List, [], _∷_}
 use native.Mathlib.Omega.{arith}
 use Rattle.choice.proofs.Rules.{pick-true, pick-false}
-use Rattle.times.specs.declared.Settings.{Settings}
 use Rattle.request.specs.Record.{DS}
 use Rattle.queue.specs.declared.Queue.{Queue}
 use Rattle.queue.specs.Queue.{current}
@@ -20,7 +19,7 @@ use Rattle.state.specs.Calls.{sendingsOf, countOf}
 use Rattle.state.specs.Fate.{Fate, confirmedWith, holdEnded, wasReset, fate}
 use Rattle.state.proofs.Phases.{begun-by}
 use Rattle.state.proofs.Places.{current-ours, current-ahead, current-shut, waiting-confirmed, shut-now}
-use Rattle.state.proofs.Places.{shut-confirmed}
+use Rattle.state.proofs.Places.{shut-confirmed, rowed-confirmed}
 use Rattle.state.proofs.Fates.{fate-one, stays, meets-ends, meets-resets, meets-confirmed, meets-another}
 use Rattle.state.proofs.Fates.{Fresh, Paid, Off}
 use Rattle.state.proofs.Standing.{ground-closed, Stage, off, ours, ahead, lower, Standing, Between, waits}
@@ -142,64 +141,64 @@ paid-same s h =
     }
 
 -- ---- the acts of a reset
-abbrev pub Emptying : ℕ → ℕ → ℕ → Settings → Queue → List ℕ → Fate → Type 0
-Emptying p limit n t q row f = Between p limit (λ d f. Dismissible limit d n f) t q row f
+abbrev pub Emptying : ℕ → ℕ → ℕ → Queue → List ℕ → Fate → Type 0
+Emptying p limit n q row f = Between p limit (λ d f. Dismissible limit d n f) q row f
 
 module _ (p limit : ℕ) where
   -- an event that leaves it all but the same
-  emptying-same : {n : ℕ} {t : Settings} {q : Queue} {row : List ℕ} (e : Event) (m : Fate → Fate) (f : Fate)
+  emptying-same : {n : ℕ} {q : Queue} {row : List ℕ} (e : Event) (m : Fate → Fate) (f : Fate)
       → ((f : Fate) → f .collected ≡ false → fate p (e ∷ []) f ≡ m f) → ((f : Fate) → Same f (m f))
-      → Emptying p limit n t q row f → Emptying p limit n t q row (fate p (e ∷ []) f)
+      → Emptying p limit n q row f → Emptying p limit n q row (fate p (e ∷ []) f)
   emptying-same e m f h i (waits d g w o) = rw (h f (o .collected)) (waits d g w (dismissible-same (i f) o))
   emptying-same e m f h i (shut g w o) = rw (h f (o .collected)) (shut g (rw (i f .sendings) w) (paid-same (i f) o))
   emptying-same e m f h i (gone z) = stayed-gone p 0 limit (e ∷ []) f z
 
   emptying-calm : {k : ℕ} {row : List ℕ} {q : Queue} (c : Core) (f : Fate)
-      → Standing p k limit (c .settings) (c .doing) q row f
-      → Emptying p limit (countOf High c) (c .settings) q row f
+      → Standing p k limit (c .doing) q row f
+      → Emptying p limit (countOf High c) q row f
   emptying-calm c f (waits d g w s) = waits d g w (dismissible c s)
   emptying-calm c f (shut g w a o) = shut g w o
   emptying-calm c f (gone z) = gone z
 
   pub emptying-resets : {k : ℕ} {row : List ℕ} {q : Queue} (c : Core) (f : Fate)
-      → Standing p k limit (c .settings) (c .doing) q row f
-      → Emptying p limit (countOf High c) (c .settings) q row (fate p (resets ∷ []) f)
+      → Standing p k limit (c .doing) q row f
+      → Emptying p limit (countOf High c) q row (fate p (resets ∷ []) f)
   emptying-resets c f h =
       emptying-same resets wasReset f (λ f e. fate-one p resets f e ∙ meets-resets p f) same-reset (emptying-calm c f h)
 
-  pub emptying-ends : {n : ℕ} {t : Settings} {q : Queue} {row : List ℕ} (f : Fate) → Emptying p limit n t q row f
-      → Emptying p limit n t q row (fate p (ends ∷ []) f)
+  pub emptying-ends : {n : ℕ} {q : Queue} {row : List ℕ} (f : Fate) → Emptying p limit n q row f
+      → Emptying p limit n q row (fate p (ends ∷ []) f)
   emptying-ends f h = emptying-same ends holdEnded f (λ f e. fate-one p ends f e ∙ meets-ends p f) same-ended h
 
   -- a confirmation of the high queue's first
-  pub emptying-high : (n : ℕ) (t : Settings) (q : Queue) (row area : List ℕ) (f : Fate) → 0 < q .unconfirmed
-      → Emptying p limit n t q row f
-      → Emptying p limit 0 t (Q.confirmed q) (confirm q DS n [] row area .row)
+  pub emptying-high : (n : ℕ) (q : Queue) (row area : List ℕ) (f : Fate) → 0 < q .unconfirmed
+      → Emptying p limit n q row f
+      → Emptying p limit 0 (Q.confirmed q) (confirm q DS n [] row area .row)
       (fate p (confirmed High (current q) DS n ∷ []) f)
-  emptying-high n t q row area f h (waits zero g w o) =
+  emptying-high n q row area f h (waits zero g w o) =
       rw (
         fate-one p (confirmed High (current q) DS n) f (o .collected),
         meets-confirmed p (current q) DS n f (current-ours p q w),
       )
-      (shut (ground-closed q DS n [] row area g h)
+      (shut (rowed-confirmed q row DS n [] area (g .rowed) h)
       (rw (sent-dismissed limit n f o) (shut-now p n q row (g .rowed) DS [] area w)) (paid-dismissed limit n f o))
-  emptying-high n t q row area f h (waits (suc d) g w o) =
+  emptying-high n q row area f h (waits (suc d) g w o) =
       let i : suc d - 1 ≡ d = omega arith in
       rw
       (stays p (confirmed High (current q) DS n) f
       (meets-another p (current q) DS n f (current-ahead p (suc d) q (g .rowed .ruled) (omega arith) w)))
-      (waits d (ground-closed q DS n [] row area g h) (rw i at (waiting-confirmed p (suc d) q (omega arith) w))
+      (waits d (ground-closed q DS n [] row area g (omega arith) w) (rw i at (waiting-confirmed p (suc d) q (omega arith) w))
       (next-dismissed limit d n f o))
-  emptying-high n t q row area f h (shut g w o) =
+  emptying-high n q row area f h (shut g w o) =
       rw
       (stays p (confirmed High (current q) DS n) f
-      (meets-another p (current q) DS n f (current-shut p (f .sendings) q row (g .rowed .ruled) h w)))
-      (shut (ground-closed q DS n [] row area g h) (shut-confirmed p (f .sendings) q row (g .rowed) DS n [] area h w) o)
-  emptying-high n t q row area f h (gone z) = stayed-gone p 0 limit _ f z
+      (meets-another p (current q) DS n f (current-shut p (f .sendings) q row (g .ruled) h w)))
+      (shut (rowed-confirmed q row DS n [] area g h) (shut-confirmed p (f .sendings) q row g DS n [] area h w) o)
+  emptying-high n q row area f h (gone z) = stayed-gone p 0 limit _ f z
 
   -- none is left
-  pub emptied : {k n : ℕ} {t : Settings} {q : Queue} {row : List ℕ} {f : Fate} → q .unconfirmed ≡ 0
-      → Emptying p limit n t q row f → Between p limit (Off k) t q row f
+  pub emptied : {k n : ℕ} {q : Queue} {row : List ℕ} {f : Fate} → q .unconfirmed ≡ 0
+      → Emptying p limit n q row f → Between p limit (Off k) q row f
   emptied e (waits d g w o) = absurd (omega (arith, w .within))
   emptied e (shut g w o) = shut g w o
   emptied e (gone z) = gone z

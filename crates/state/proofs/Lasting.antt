@@ -15,7 +15,7 @@ use Rattle.state.specs.World.{Rows, Site, World, Event, refused}
 use Rattle.state.specs.Runs.{Call, call, run}
 use Rattle.state.specs.Submitted.{never}
 use Rattle.state.proofs.Cases.{Any}
-use Rattle.state.proofs.Acts.{Point, Move, Act, Trail}
+use Rattle.state.proofs.Acts.{Point, calm, Move, Act, Trail}
 use Rattle.state.proofs.Keeping.{Account, kept-trail, kept-run, met}
 use Rattle.state.proofs.Filed.{Filed}
 use Rattle.state.proofs.Poise.{queueBy, FirmAt, Poised, poise}
@@ -138,3 +138,47 @@ module _ (t : Settings) (ts : ℕ) (small : ts ≤ 126) (y : Priority) (f : Last
     unfolding run
     lasts-told earlier later e i j =
         lasts-met (c ∷ []) w o h earlier later e (append-nil (call c w .events) ∙ i) j
+
+-- ---- what is asked of an event after those before it, by an account of them, where the fact is needed to meet it
+pub record Helped (t : Settings) (ts : ℕ) (small : ts ≤ 126) (y : Priority) (f : Lasts y ts)
+    (a : Account (poise t ts small)) : Type 1 where
+  pub Meets : Event → a .History → Type 0
+  pub refusal : (n : ℕ) (h : a .History) → Meets (refused n) h
+  pub meets : {p q : Point} {s s′ : Site} {e : Event} → Act Any p s e q s′ → (h : a .History) → Poised t ts p s
+      → a .At p s h → FactAt t ts small y f s → Meets e h
+
+module _ (t : Settings) (ts : ℕ) (small : ts ≤ 126) (y : Priority) (f : Lasts y ts) (a : Account (poise t ts small))
+    (b : Helped t ts small y f a) where
+  abbrev beside : Account (poise t ts small)
+  beside =
+      record {
+        History = a .History × Bool;
+        after = λ e h. (a .after e (h .0), stillBy (f .ends) e (h .1));
+        afterAll = λ l h. (a .afterAll l (h .0), still (f .ends) l (h .1));
+        none = λ h. rw (a .none (h .0), still-none (f .ends) (h .1));
+        more = λ e l h. rw (a .more e l (h .0), still-more (f .ends) e l (h .1));
+        Meets = λ e h. h .1 ≡ true → b .Meets e (h .0);
+        At = λ p s h. a .At p s (h .0) × Stands t ts small y f s (h .1);
+        moves = λ m h g i. (a .moves m (h .0) g (i .0), stands-moved t ts small y f m (h .1) (i .1));
+        acts =
+            λ m h g i. (
+              λ z. b .meets m (h .0) g (i .0) (i .1 .fact z),
+              (a .acts m (h .0) g (i .0) .1, stands-acted t ts small y f m (h .1) g (i .1) .1),
+            );
+        refuses =
+            λ n s h i. (
+              λ z. b .refusal n (h .0),
+              (
+                a .refuses n s (h .0) (i .0) .1,
+                stands-by t ts small y f (h .1) (λ z. (f .refusal n, λ e. z)) (i .1) .1,
+              ),
+            );
+      }
+
+  pub met-beside : (l : List Call) (w : World) (o : Orderly t ts w) (h : a .History) → a .At calm (w .site) h
+      → FactAt t ts small y f (w .site) → (earlier later : List Event) (e : Event)
+      → run l w .events ≡ earlier ++ (e ∷ later) → never (f .ends) earlier ≡ true
+      → b .Meets e (a .afterAll earlier h)
+  met-beside l w o h i z earlier later e j k =
+      met beside l w (h, true) (poised t ts w o) (i, stands-now t ts small y f (w .site) z) earlier later e j
+      (still-never (f .ends) earlier k)

@@ -2,7 +2,7 @@
 -- every record handed back is of that request. Assumes nothing.
 use Prim.Native.Nat.{ℕ, _+_, _<_, _≤_}
 use mathlib.Core.Bool.{Bool, true, false, true≢false}
-use mathlib.Core.Path.{_≡_, refl, sym, _∙_}
+use mathlib.Core.Path.{_≡_, refl, sym, ap, _∙_}
 use mathlib.Core.List.{List, [], _∷_, _++_}
 use native.Mathlib.Omega.{arith}
 use lib.ListN.{length}
@@ -11,7 +11,7 @@ use Rattle.choice.proofs.Rules.{same-false, pick-true, pick-false}
 use Rattle.times.specs.declared.Settings.{Settings}
 use Rattle.frame.specs.declared.Address.{Address}
 use Rattle.request.specs.declared.Record.{Record}
-use Rattle.request.specs.Record.{unfit}
+use Rattle.request.specs.Record.{unfit, limited}
 use Rattle.request.proofs.Laws.{fit-short}
 use Rattle.queue.specs.declared.Queue.{Queue}
 use Rattle.queue.specs.declared.Collected.{Collected}
@@ -52,7 +52,7 @@ use Rattle.state.proofs.Staying.{asks-effect, Held, pending, held-of, h
 use Rattle.state.proofs.Weights.{files}
 use Rattle.state.proofs.Walk.{filing, solely, unfiled-beside}
 use Rattle.state.proofs.Writable.{reads}
-use Rattle.state.proofs.Submission.{Submission, declines, admits, submission}
+use Rattle.state.proofs.Submission.{Submission, declines, admits, submission-by-limit}
 use Rattle.state.proofs.Entering.{open-new}
 
 -- an acceptance
@@ -68,36 +68,36 @@ enrols resets = false
 enrols (refused n) = false
 
 -- ---- at place n lies a record of the entry's request, and while it waits its data
-unfoldable HeldBy : Entry → Priority → ℕ → ℕ → Queue → Rows → Type 0
-HeldBy blank y n ts q u = ⊥
-HeldBy (entry r x) y n ts q u = (unfit ts r (length x) ≡ 0) × Held y n ts r x q u
+unfoldable HeldBy : Entry → Priority → ℕ → ℕ → ℕ → Queue → Rows → Type 0
+HeldBy blank y n ts limit q u = ⊥
+HeldBy (entry r x) y n ts limit q u = (unfit ts (limited limit r) (length x) ≡ 0) × Held y n ts limit r x q u
 
 -- so it is at each place in use
-record Booked (y : Priority) (ts : ℕ) (l : ℕ → Entry) (q : Queue) (u : Rows) : Type 0 where
-  booked : (t : ℕ) → t < q .confirmed + q .unconfirmed → HeldBy (l (place q t)) y (place q t) ts q u
+record Booked (y : Priority) (ts limit : ℕ) (l : ℕ → Entry) (q : Queue) (u : Rows) : Type 0 where
+  booked : (t : ℕ) → t < q .confirmed + q .unconfirmed → HeldBy (l (place q t)) y (place q t) ts limit q u
 
-module _ (y : Priority) (ts : ℕ) where
+module _ (y : Priority) (ts limit : ℕ) where
   by-lasts : {a : Address} {q q′ : Queue} {u u′ : Rows} {e : Event} (n : ℕ) (f : Entry) → Filed (a .0) q u
-      → Effect y a q u e q′ u′ → collects y n e ≡ false → HeldBy f y n ts q u → HeldBy f y n ts q′ u′
+      → Effect y a q u e q′ u′ → collects y n e ≡ false → HeldBy f y n ts limit q u → HeldBy f y n ts limit q′ u′
   unfolding HeldBy
   by-lasts n blank f h i z = z
-  by-lasts n (entry r x) f h i z = (z .0, held-lasts y n ts r x (z .0) f h (z .1) i)
+  by-lasts n (entry r x) f h i z = (z .0, held-lasts y n ts limit r x (z .0) f h (z .1) i)
 
   by-carries : {a : Address} {q : Queue} {u : Rows} (n : ℕ) (f : Entry) (marks : List ℕ) → a .0 ≡ ts
-      → Filed (a .0) q u → HeldBy f y n ts q u → 0 < q .unconfirmed → current q ≡ n
-      → CarriesEntry ts y f (octetsIn a y q marks u)
+      → Filed (a .0) q u → HeldBy f y n ts limit q u → 0 < q .unconfirmed → current q ≡ n
+      → CarriesEntry ts limit y f (octetsIn a y q marks u)
   unfolding HeldBy CarriesEntry
   by-carries n blank marks s f z i j = z
-  by-carries n (entry r x) marks s f z i j = held-carries y n ts r x (z .0) marks s f (z .1) i j
+  by-carries n (entry r x) marks s f z i j = held-carries y n ts limit r x (z .0) marks s f (z .1) i j
 
-  by-of : (q : Queue) (u : Rows) (n : ℕ) (f : Entry) → HeldBy f y n ts q u → OfEntry f (at (u .row) n)
+  by-of : (q : Queue) (u : Rows) (n : ℕ) (f : Entry) → HeldBy f y n ts limit q u → OfEntry limit f (at (u .row) n)
   unfolding HeldBy OfEntry
   by-of q u n blank z = z
-  by-of q u n (entry r x) z = held-of y n ts r x (z .1)
+  by-of q u n (entry r x) z = held-of y n ts limit r x (z .1)
 
   -- the entries as they are
-  booked-like : {q : Queue} {u : Rows} (l m : ℕ → Entry) → ((n : ℕ) → m n ≡ l n) → Booked y ts l q u
-      → Booked y ts m q u
+  booked-like : {q : Queue} {u : Rows} (l m : ℕ → Entry) → ((n : ℕ) → m n ≡ l n) → Booked y ts limit l q u
+      → Booked y ts limit m q u
   booked-like l m h z = record { booked = λ t i. rw (h _) (z .booked t i) }
 
   -- ---- every act but an acceptance keeps the books
@@ -111,7 +111,7 @@ module _ (y : Priority) (ts : ℕ) where
       omega (arith, i)
 
   booked-lasts : {a : Address} {q q′ : Queue} {u u′ : Rows} {e : Event} (l : ℕ → Entry) → Filed (a .0) q u
-      → Effect y a q u e q′ u′ → Booked y ts l q u → enrols e ≡ false → Booked y ts l q′ u′
+      → Effect y a q u e q′ u′ → Booked y ts limit l q u → enrols e ≡ false → Booked y ts limit l q′ u′
   unfolding enrols collects Q.confirmed freed
   booked-lasts l f (spared e h) z i = z
   booked-lasts l f (sentOut marks t h) z i = z
@@ -131,8 +131,8 @@ module _ (y : Priority) (ts : ℕ) where
       }
 
   booked-asks : {a : Address} {q q′ : Queue} {u u′ : Rows} {e : Event} (l : ℕ → Entry) → a .0 ≡ ts
-      → Filed (a .0) q u → Effect y a q u e q′ u′ → Booked y ts l q u → (n : ℕ)
-      → Asks y n (CarriesEntry ts y (l n)) (OfEntry (l n)) e
+      → Filed (a .0) q u → Effect y a q u e q′ u′ → Booked y ts limit l q u → (n : ℕ)
+      → Asks y n (CarriesEntry ts limit y (l n)) (OfEntry limit (l n)) e
   unfolding current
   booked-asks {q = q} l s f h z n =
       asks-effect y n _ _ h
@@ -142,8 +142,8 @@ module _ (y : Priority) (ts : ℕ) where
   abbrev books : (ℕ → Entry) → Lasts y ts
   books l =
       record {
-        Fact = Booked y ts l;
-        Asks = λ e. (n : ℕ) → Asks y n (CarriesEntry ts y (l n)) (OfEntry (l n)) e;
+        Fact = Booked y ts limit l;
+        Asks = λ e. (n : ℕ) → Asks y n (CarriesEntry ts limit y (l n)) (OfEntry limit (l n)) e;
         ends = enrols;
         refusal = λ m n. asks-refused y n _ _ m;
         lasts = λ s f h z. (booked-asks l s f h z, booked-lasts l f h z);
@@ -162,30 +162,33 @@ module _ (y : Priority) (ts : ℕ) where
   met-by n = pick-true _ _ (itself y n)
 
   module _ (a : Address) (i : a .0 ≡ ts) (q : Queue) (u : Rows) (f : Filed (a .0) q u) (r : Record) (x : List ℕ)
-      (g : Accepted (a .0) q r (length x)) (l : ℕ → Entry) (z : Booked y ts l q u) where
+      (g : Accepted (a .0) q (limited limit r) (length x)) (l : ℕ → Entry) (z : Booked y ts limit l q u) where
+    abbrev kept : Record
+    kept = limited limit r
+
     abbrev last : ℕ
     last = place q (q .confirmed + q .unconfirmed)
 
     short : length x ≤ AREA
-    short = omega (arith, fit-short (a .0) r _ (g .fit))
+    short = omega (arith, fit-short (a .0) kept _ (g .fit))
 
     old : (t : ℕ) → t < q .confirmed + q .unconfirmed
-        → HeldBy (entering r x (accepted y last ∷ []) l (place q t)) y (place q t) ts (grown q) (takenBy q u r x)
+        → HeldBy (entering r x (accepted y last ∷ []) l (place q t)) y (place q t) ts limit (grown q) (takenBy q u kept x)
     unfolding collects
     old t h =
         rw (pick-true (l (place q t)) (entry r x) (spared-by (place q t) last
         (λ e. let i = place-apart q _ t (g .room) (omega (arith, g .room)) e in omega (arith, i))))
-        (by-lasts (place q t) (l (place q t)) f (taken r x (g .room) short) refl (z .booked t h))
+        (by-lasts (place q t) (l (place q t)) f (taken kept x (g .room) short) refl (z .booked t h))
 
-    new : HeldBy (entering r x (accepted y last ∷ []) l last) y last ts (grown q) (takenBy q u r x)
+    new : HeldBy (entering r x (accepted y last ∷ []) l last) y last ts limit (grown q) (takenBy q u kept x)
     unfolding HeldBy
-    new = rw (pick-false (l last) (entry r x) (met-by last)) (rw i at (g .fit), pending (open-new q u f r x g))
+    new = rw (pick-false (l last) (entry r x) (met-by last)) (rw i at (g .fit), pending (open-new q u f kept x g))
 
     new-at : (t : ℕ) → t ≡ q .confirmed + q .unconfirmed
-        → HeldBy (entering r x (accepted y last ∷ []) l (place q t)) y (place q t) ts (grown q) (takenBy q u r x)
+        → HeldBy (entering r x (accepted y last ∷ []) l (place q t)) y (place q t) ts limit (grown q) (takenBy q u kept x)
     new-at t e = rw e new
 
-    booked-taken : Booked y ts (entering r x (accepted y last ∷ []) l) (grown q) (takenBy q u r x)
+    booked-taken : Booked y ts limit (entering r x (accepted y last ∷ []) l) (grown q) (takenBy q u kept x)
     unfolding grown
     booked-taken =
         record {
@@ -199,25 +202,27 @@ foreign : (y z : Priority) (n m : ℕ) → alike y z ≡ false → never (accept
 unfolding accepts
 foreign y z n m h = never-one (accepts y n) (accepted z m) (pick-false _ _ h)
 
-module _ (ts : ℕ) (r : Record) (x : List ℕ) (w : World) (i : w .site .core .ts .0 ≡ ts) (l : ℕ → Entry) where
+module _ (ts limit : ℕ) (r : Record) (x : List ℕ) (w : World) (i : w .site .core .ts .0 ≡ ts) (l : ℕ → Entry) where
   booked-admitted : (y z : Priority) → Filed (w .site .core .ts .0) (queueAt y (w .site)) (rowsAt y (w .site))
-      → Accepted (w .site .core .ts .0) (queueOf z (w .site .core)) r (length x)
-      → Booked y ts l (queueAt y (w .site)) (rowsAt y (w .site))
-      → Booked y ts (entering y ts r x (accepted z (taking z r x (w .site) .answer .place) ∷ []) l)
-      (queueAt y (grownBy z r x (w .site))) (rowsAt y (grownBy z r x (w .site)))
+      → Accepted (w .site .core .ts .0) (queueOf z (w .site .core)) (limited limit r) (length x)
+      → Booked y ts limit l (queueAt y (w .site)) (rowsAt y (w .site))
+      → Booked y ts limit
+      (entering y ts limit r x (accepted z (taking z (limited limit r) x (w .site) .answer .place) ∷ []) l)
+      (queueAt y (grownBy z (limited limit r) x (w .site))) (rowsAt y (grownBy z (limited limit r) x (w .site)))
   unfolding withRows withCore withQueue queueOf rowsOf queueBy rowsBy take alike
-  booked-admitted High High f g b = booked-taken High ts (w .site .core .ts) i _ _ f r x g l b
-  booked-admitted High Low f g b = booked-like High ts l _ (λ n. pick-true _ _ (foreign High Low n _ refl)) b
-  booked-admitted Low High f g b = booked-like Low ts l _ (λ n. pick-true _ _ (foreign Low High n _ refl)) b
-  booked-admitted Low Low f g b = booked-taken Low ts (w .site .core .ts) i _ _ f r x g l b
+  booked-admitted High High f g b = booked-taken High ts limit (w .site .core .ts) i _ _ f r x g l b
+  booked-admitted High Low f g b = booked-like High ts limit l _ (λ n. pick-true _ _ (foreign High Low n _ refl)) b
+  booked-admitted Low High f g b = booked-like Low ts limit l _ (λ n. pick-true _ _ (foreign Low High n _ refl)) b
+  booked-admitted Low Low f g b = booked-taken Low ts limit (w .site .core .ts) i _ _ f r x g l b
 
   booked-submission : {d : Called} (y z : Priority)
-      → Filed (w .site .core .ts .0) (queueAt y (w .site)) (rowsAt y (w .site)) → Submission z r x w d
-      → Booked y ts l (queueAt y (w .site)) (rowsAt y (w .site))
-      → Booked y ts (entering y ts r x (d .events) l) (queueAt y (d .world .site)) (rowsAt y (d .world .site))
+      → Filed (w .site .core .ts .0) (queueAt y (w .site)) (rowsAt y (w .site)) → Submission z (limited limit r) x w d
+      → Booked y ts limit l (queueAt y (w .site)) (rowsAt y (w .site))
+      → Booked y ts limit (entering y ts limit r x (d .events) l) (queueAt y (d .world .site))
+      (rowsAt y (d .world .site))
   unfolding refuse called done withSite accepts
   booked-submission y z f (declines m h) b =
-      booked-like y ts l _ (λ n. pick-true _ _ (never-one (accepts y n) (refused m) refl)) b
+      booked-like y ts limit l _ (λ n. pick-true _ _ (never-one (accepts y n) (refused m) refl)) b
   booked-submission y z f (admits l k g i) b = booked-admitted y z f g b
 
 -- ---- calls that are no submit accept nothing
@@ -254,11 +259,11 @@ idle-collect p w =
 -- ---- every call keeps the books
 module _ (t : Settings) (ts : ℕ) (y : Priority) where
   abbrev BookedAt : (ℕ → Entry) → World → Type 0
-  BookedAt l w = Booked y ts l (queueAt y (w .site)) (rowsAt y (w .site))
+  BookedAt l w = Booked y ts (t .retries .0) l (queueAt y (w .site)) (rowsAt y (w .site))
 
   booked-other : (c : Call) (w : World) (l : ℕ → Entry) → Orderly t ts w → BookedAt l w
       → never enrols (call c w .events) ≡ true → BookedAt l (call c w .world)
-  booked-other c w l o b h = lasts-call t ts (o .small) y (books y ts l) c w o b h
+  booked-other c w l o b h = lasts-call t ts (o .small) y (books y ts (t .retries .0) l) c w o b h
 
   unenrolled : (c : Call) (w : World) → filing c ≡ false → never enrols (call c w .events) ≡ true
   unenrolled c w h = never-within files enrols (call c w .events) unfiled-unenrolled (solely c w h)
@@ -267,7 +272,8 @@ module _ (t : Settings) (ts : ℕ) (y : Priority) where
       → BookedAt (λ n. enters y n c (call c w .events) (l n)) (call c w .world)
   unfolding enters filing
   booked-call (submit z r x) w l o b =
-      booked-submission ts r x w (o .firm .station) l y z (filed-at t ts y (w .site) (o .firm)) (submission z r x w) b
+      booked-submission ts (t .retries .0) r x w (o .firm .station) l y z (filed-at t ts y (w .site) (o .firm))
+      (submission-by-limit z r x w (ap (λ (s : Settings). s .retries .0) (o .firm .settings))) b
   booked-call (frame clock room high low octets out) w l o b =
       booked-other (frame clock room high low octets out) w l o b (unenrolled _ w refl)
   booked-call (sent clock out) w l o b = booked-other (sent clock out) w l o b (unenrolled _ w refl)
@@ -284,29 +290,34 @@ module _ (t : Settings) (ts : ℕ) (y : Priority) where
       (booked-call c w l o b)
 
 -- after a start no place is in use
-booked-begun : (y : Priority) (ts : ℕ) (w : World) (l : ℕ → Entry) → Begun w
-    → Booked y ts l (queueAt y (w .site)) (rowsAt y (w .site))
+booked-begun : (y : Priority) (ts limit : ℕ) (w : World) (l : ℕ → Entry) → Begun w
+    → Booked y ts limit l (queueAt y (w .site)) (rowsAt y (w .site))
 unfolding queueBy emptyQueue
-booked-begun High ts w l b = record { booked = λ t i. absurd (omega (arith, rw (begun-queues w b .0) at i)) }
-booked-begun Low ts w l b = record { booked = λ t i. absurd (omega (arith, rw (begun-queues w b .1) at i)) }
+booked-begun High ts limit w l b = record { booked = λ t i. absurd (omega (arith, rw (begun-queues w b .0) at i)) }
+booked-begun Low ts limit w l b = record { booked = λ t i. absurd (omega (arith, rw (begun-queues w b .1) at i)) }
 
-reads-entry : (ts : ℕ) (p : Priority) (e : Entry) (o : List ℕ) → ts ≤ 126 → CarriesEntry ts p e o
+reads-entry : (ts limit : ℕ) (p : Priority) (e : Entry) (o : List ℕ) → ts ≤ 126 → CarriesEntry ts limit p e o
     → ReadsEntry ts p e o
 unfolding CarriesEntry ReadsEntry
-reads-entry ts p blank o t c = c
-reads-entry ts p (entry r x) o t c = reads ts p r x o t c
+reads-entry ts limit p blank o t c = c
+reads-entry ts limit p (entry r x) o t c = reads ts limit p r x o t c
 
 -- ---- the theorems: after a start and any calls comes a call
 module _ (w : World) (b : Begun w) (before : List Call) (c : Call) (p : Priority) (n : ℕ)
     (earlier later : List Event) where
+  -- the station's retry limit
+  abbrev limit : ℕ
+  limit = b .settings .retries .0
+
   asked : (e : Event) → call c (run before w .world) .events ≡ earlier ++ (e ∷ later)
-      → Asks p n (CarriesEntry (b .ts) p (ledger p n before w blank)) (OfEntry (ledger p n before w blank)) e
+      → Asks p n (CarriesEntry (b .ts) limit p (ledger p n before w blank)) (OfEntry limit (ledger p n before w blank))
+      e
   asked e i =
       let o = begun-orderly w b in
       let s = run-orderly (b .settings) (b .ts) before w o in
-      lasts-told (b .settings) (b .ts) (o .small) p (books p (b .ts) (λ m. ledger p m before w blank)) c
+      lasts-told (b .settings) (b .ts) (o .small) p (books p (b .ts) limit (λ m. ledger p m before w blank)) c
       (run before w .world) s
-      (booked-run (b .settings) (b .ts) p before w (λ m. blank) o (booked-begun p (b .ts) w (λ m. blank) b)) earlier
+      (booked-run (b .settings) (b .ts) p before w (λ m. blank) o (booked-begun p (b .ts) limit w (λ m. blank) b)) earlier
       later e i
       (never-within files enrols earlier unfiled-unenrolled
       (unfiled-beside c (run before w .world) earlier later e i .0)) n
@@ -315,17 +326,17 @@ module _ (w : World) (b : Begun w) (before : List Call) (c : Call) (p : Priority
   -- accepted there
   pub sent-as-entered : (o : List ℕ) (t : ℕ)
       → call c (run before w .world) .events ≡ earlier ++ (sends (aRequest p n) o t ∷ later)
-      → CarriesEntry (b .ts) p (ledger p n before w blank) o
+      → CarriesEntry (b .ts) limit p (ledger p n before w blank) o
   sent-as-entered o t i = asked-sent p n _ _ o t (asked (sends (aRequest p n) o t) i)
 
   -- and a reader takes them for the frame that was meant
   pub read-as-entered : (o : List ℕ) (t : ℕ)
       → call c (run before w .world) .events ≡ earlier ++ (sends (aRequest p n) o t ∷ later)
       → ReadsEntry (b .ts) p (ledger p n before w blank) o
-  read-as-entered o t i = reads-entry (b .ts) p _ o (begun-orderly w b .small) (sent-as-entered o t i)
+  read-as-entered o t i = reads-entry (b .ts) limit p _ o (begun-orderly w b .small) (sent-as-entered o t i)
 
   -- where it hands back a record of that place, that is of the same request
   pub handed-as-entered : (r : Record)
       → call c (run before w .world) .events ≡ earlier ++ (collected p n r ∷ later)
-      → OfEntry (ledger p n before w blank) r
+      → OfEntry limit (ledger p n before w blank) r
   handed-as-entered r i = asked-collected p n _ _ r (asked (collected p n r) i)

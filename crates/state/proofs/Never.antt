@@ -120,7 +120,8 @@ unfit-not ts r n =
     by (λ (m : ℕ). m ≡ 29 → ⊥) _ _ _ (λ e z. omega arith)
     (λ e. by (λ (m : ℕ). m ≡ 29 → ⊥) _ _ _ (λ e z. omega arith)
     (λ e. by (λ (m : ℕ). m ≡ 29 → ⊥) _ _ _ (λ e z. omega arith)
-    (λ e. by (λ (m : ℕ). m ≡ 29 → ⊥) _ _ _ (λ e z. omega arith) (λ e z. omega arith))))
+    (λ e. by (λ (m : ℕ). m ≡ 29 → ⊥) _ _ _ (λ e z. omega arith)
+    (λ e. by (λ (m : ℕ). m ≡ 29 → ⊥) _ _ _ (λ e z. omega arith) (λ e z. omega arith)))))
 
 taken-not : (ts : ℕ) (q : Queue) (r : Record) (n : ℕ) → taken ts q r n .refused ≡ 29 → ⊥
 unfolding taken take Q.refuse
@@ -176,11 +177,11 @@ module _ (t : Settings) (ts : ℕ) (w : World) (o : Orderly t ts w) where
   spared-submit High r x =
       by Spared _ _ _ (λ e. not-21)
       (λ e. by Spared _ _ _ (λ e. lawful e)
-      (λ e. spared-submitting High _ w (submitted-not _ _ r x _ _)))
+      (λ e. spared-submitting High _ w (submitted-not _ _ _ x _ _)))
   spared-submit Low r x =
       by Spared _ _ _ (λ e. not-21)
       (λ e. by Spared _ _ _ (λ e. lawful e)
-      (λ e. spared-submitting Low _ w (submitted-not _ _ r x _ _)))
+      (λ e. spared-submitting Low _ w (submitted-not _ _ _ x _ _)))
 
   spared-collect : (y : Priority) → Spared (Calls.collect y w)
   unfolding Calls.collect queueOf rowsOf

@@ -48,9 +48,10 @@ times = true
 -- the ring, and rows of records
 unfoldable pub rows : Bool
 unfolding tests Ring.member Ring.on Ring.seek Ring.nextOf Ring.previousOf Ring.enter Laid.laid Record.named
-    Access.accessOf Access.pointOf Record.octets Record.recordAt Record.misaddressed Record.beyond Record.mispointed
-    Record.unserved Record.extensions Record.overlong Record.unfit Queue.place Queue.unlike Queue.misfit Queue.above
-    Queue.overfull Queue.closed Queue.grown Queue.take Queue.taken Queue.current Queue.confirmed Queue.freed
+    Access.accessOf Access.pointOf Record.referenceOctets Record.referenceAt Record.flagOctet Record.flagged
+    Record.octets Record.recordAt Record.limited Record.misaddressed Record.beyond Record.mispointed Record.unserved
+    Record.extensions Record.overlong Record.overlimit Record.unfit Queue.place Queue.unlike Queue.misfit Queue.above
+    Queue.overfull Queue.closed Queue.grown Queue.refuse Queue.take Queue.taken Queue.current Queue.confirmed Queue.freed
     Queue.collected Rows.at Rows.content Rows.put Rows.fill Rows.stored Rows.submitted Rows.confirm Rows.handed
     Rows.sound
 rows = true

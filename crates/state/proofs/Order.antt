@@ -67,16 +67,16 @@ loaded-some : (y : Priority) (c : Core) → 0 < queueBy y (c .high) (c .low) .un
     → same (queueOf y c .unconfirmed) 0 ≡ false
 loaded-some y c h = same-false (λ e. omega (arith, ap (λ (q : Queue). q .unconfirmed) (queue-by y c)))
 
-even : {limit n : ℕ} (x : Phase) (c : Core) (masters u v : List ℕ)
-    → Apt limit n (c .ts .0) masters (c .high) (c .low) u v x (c .doing .served) → oddIn x c masters ≡ false
+even : (x : Phase) (c : Core) (masters u v : List ℕ)
+    → Apt (c .ts .0) masters (c .high) (c .low) u v x (c .doing .served) → oddIn x c masters ≡ false
 even x c masters u v a =
     odd-by x c masters
     ∙ by (λ (b : Bool). b ≡ false) _ _ _ (λ h. loaded-some _ c (a .flying h .some))
     (λ h. by (λ (b : Bool). b ≡ false) _ _ _ (λ h. same-false (a .check h))
     (λ h. by (λ (b : Bool). b ≡ false) _ _ _ (λ h. pick-true _ _ (same-true (a .self h))) (λ h. refl)))
 
-alike : {limit n : ℕ} (x : Phase) (c : Core) (masters u v : List ℕ)
-    → Apt limit n (c .ts .0) masters (c .high) (c .low) u v x (c .doing .served)
+alike : (x : Phase) (c : Core) (masters u v : List ℕ)
+    → Apt (c .ts .0) masters (c .high) (c .low) u v x (c .doing .served)
     → unlikeIn x (inFlight c u v .service) ≡ false
 unfolding inFlight
 alike x c masters u v a = by-flight (flight x) refl

@@ -182,6 +182,22 @@ module _ (p n : ℕ) (q : Queue) (row : List ℕ) (u : Rowed q row) where
         count = s .count;
       }
 
+-- ---- the record of a waiting request stays as it is when one ahead of it is confirmed, and when one is taken behind it
+module _ {p d : ℕ} (q : Queue) (row : List ℕ) where
+  pub ahead-kept : (status m : ℕ) (x area : List ℕ) → Rowed q row → 0 < d → Waiting p d q
+      → at (confirm q status m x row area .row) p ≡ at row p
+  unfolding confirm
+  ahead-kept status m x area u h w =
+      at-other row (current q) p _ (current-fits (current q) q row u refl) (current-ahead p d q (u .ruled) h w)
+
+  pub behind-kept : (r : Record) → Rowed q row → q .confirmed + q .unconfirmed < q .places → Waiting p d q
+      → at (put row (place q (q .confirmed + q .unconfirmed)) r) p ≡ at row p
+  behind-kept r u h w =
+      let b = place-below q (q .confirmed + q .unconfirmed) (u .ruled) (u .ruled .used) in
+      let i : q .confirmed + q .unconfirmed ≡ q .confirmed + d → ⊥ = λ e. omega (arith, w .within) in
+      at-other row _ p r (omega (arith, u .long))
+      (λ e. i (place-apart q _ (q .confirmed + d) h (omega (arith, w .within)) (e ∙ w .is)))
+
 -- ---- the first place in use
 pub first-waiting : (p d : ℕ) (q : Queue) → Ruled q → 0 < q .confirmed → Waiting p d q → q .first ≡ p → ⊥
 first-waiting p d q r h w e =

@@ -52,11 +52,9 @@ pub record Loaded (x : Phase) (q : Queue) (row : List ℕ) : Type 0 where
   pub some : 0 < q .unconfirmed
   pub fits : unlikeIn x (at row (current q) .service) ≡ false
 
--- a phase that is not at odds with what is being sent, nor with its sendings so far
-pub record Apt (limit sendings own : ℕ) (masters : List ℕ) (h l : Queue) (u v : List ℕ) (x : Phase) (y : Priority) :
-    Type 0 where
+-- a phase that is not at odds with what is being sent
+pub record Apt (own : ℕ) (masters : List ℕ) (h l : Queue) (u v : List ℕ) (x : Phase) (y : Priority) : Type 0 where
   pub flying : flight x ≡ true → Loaded x (queueBy y h l) (rowBy y u v)
-  pub counted : flight x ≡ true → (0 < sendings) × (sendings ≤ limit + 1)
   pub check : checking x ≡ true → nextOf masters own ≡ own → ⊥
   pub self : selfing x ≡ true → nextOf masters own ≡ own
 
@@ -78,53 +76,45 @@ FirmAt t ts s =
 
 abbrev pub AptAt : Site → Type 0
 AptAt s =
-    Apt (s .core .settings .retries .0) (s .core .doing .sendings) (s .core .ts .0) (s .masters) (s .core .high)
-    (s .core .low) (s .high .row) (s .low .row) (s .core .doing .phase) (s .core .doing .served)
+    Apt (s .core .ts .0) (s .masters) (s .core .high) (s .core .low) (s .high .row) (s .low .row)
+    (s .core .doing .phase) (s .core .doing .served)
 
 -- ---- phases
-module _ (limit own : ℕ) (masters : List ℕ) (h l : Queue) (u v : List ℕ) where
-  unflown : (n : ℕ) (x : Phase) (y : Priority) → flight x ≡ false → (checking x ≡ true → nextOf masters own ≡ own → ⊥)
-      → (selfing x ≡ true → nextOf masters own ≡ own) → Apt limit n own masters h l u v x y
-  unflown n x y e c s =
-      record {
-        flying = λ z. absurd (true≢false (sym z ∙ e));
-        counted = λ z. absurd (true≢false (sym z ∙ e));
-        check = c;
-        self = s;
-      }
+module _ (own : ℕ) (masters : List ℕ) (h l : Queue) (u v : List ℕ) where
+  unflown : (x : Phase) (y : Priority) → flight x ≡ false → (checking x ≡ true → nextOf masters own ≡ own → ⊥)
+      → (selfing x ≡ true → nextOf masters own ≡ own) → Apt own masters h l u v x y
+  unflown x y e c s = record { flying = λ z. absurd (true≢false (sym z ∙ e)); check = c; self = s }
 
-  pub apt-idle : (n : ℕ) (y : Priority) → Apt limit n own masters h l u v Idle y
+  pub apt-idle : (y : Priority) → Apt own masters h l u v Idle y
   unfolding flight checking selfing
-  apt-idle n y = unflown n Idle y refl (λ e. absurd (true≢false (sym e))) (λ e. absurd (true≢false (sym e)))
+  apt-idle y = unflown Idle y refl (λ e. absurd (true≢false (sym e))) (λ e. absurd (true≢false (sym e)))
 
   -- sent for the first time
   apt-loaded : (x : Phase) (y : Priority) → checking x ≡ false → selfing x ≡ false
-      → Loaded x (queueBy y h l) (rowBy y u v) → Apt limit 1 own masters h l u v x y
+      → Loaded x (queueBy y h l) (rowBy y u v) → Apt own masters h l u v x y
   apt-loaded x y c s z =
       record {
         flying = λ e. z;
-        counted = λ e. (omega arith, omega arith);
         check = λ e. absurd (true≢false (sym e ∙ c));
         self = λ e. absurd (true≢false (sym e ∙ s));
       }
 
   apt-sending : (y : Priority) (n : ℕ) → 0 < queueBy y h l .unconfirmed
       → n ≡ at (rowBy y u v) (current (queueBy y h l)) .service
-      → Apt limit (sending y n .sendings) own masters h l u v (sending y n .phase) (sending y n .served)
+      → Apt own masters h l u v (sending y n .phase) (sending y n .served)
   unfolding sending checking selfing unlikeIn
   apt-sending y n z e =
-      by (λ (g : Doing). Apt limit (g .sendings) own masters h l u v (g .phase) (g .served)) _ _ _
+      by (λ (g : Doing). Apt own masters h l u v (g .phase) (g .served)) _ _ _
       (λ i. apt-loaded Sdn y refl refl (record { some = z; fits = pick-true _ _ (rw e at i) }))
       (λ i. apt-loaded Awaited y refl refl (record { some = z; fits = rw e at i }))
 
   apt-passing : (c : Core) → c .ts .0 ≡ own
-      → Apt limit (passingOn (nextOf masters own) c .sendings) own masters h l u v
-      (passingOn (nextOf masters own) c .phase) (passingOn (nextOf masters own) c .served)
+      → Apt own masters h l u v (passingOn (nextOf masters own) c .phase) (passingOn (nextOf masters own) c .served)
   unfolding passingOn flight checking selfing
   apt-passing c e =
-      by (λ (g : Doing). Apt limit (g .sendings) own masters h l u v (g .phase) (g .served)) _ _ _
-      (λ i. unflown 1 ToSelf _ refl (λ z. absurd (true≢false (sym z))) (λ z. true-same _ _ i ∙ e))
-      (λ i. unflown 1 Check _ refl (λ z f. false-same _ _ i (f ∙ sym e)) (λ z. absurd (true≢false (sym z))))
+      by (λ (g : Doing). Apt own masters h l u v (g .phase) (g .served)) _ _ _
+      (λ i. unflown ToSelf _ refl (λ z. absurd (true≢false (sym z))) (λ z. true-same _ _ i ∙ e))
+      (λ i. unflown Check _ refl (λ z f. false-same _ _ i (f ∙ sym e)) (λ z. absurd (true≢false (sym z))))
 
 -- ---- what is being sent stays as it is while its queue is changed behind or before it
 apart-from : (q : Queue) → 0 < q .unconfirmed → q .confirmed + q .unconfirmed ≡ q .confirmed → ⊥
@@ -153,18 +143,18 @@ loaded-freed x q row u h z =
     let e : q .confirmed - 1 + 1 ≡ q .confirmed = omega arith in
     record { some = z .some; fits = rw (place-freed q (q .confirmed - 1) u (omega (arith, u .used)), e) (z .fits) }
 
-module _ {limit n own : ℕ} {masters : List ℕ} {h l h′ : Queue} {u v u′ : List ℕ} {x : Phase} where
-  apt-high : (y : Priority) → (Loaded x h u → Loaded x h′ u′) → Apt limit n own masters h l u v x y
-      → Apt limit n own masters h′ l u′ v x y
+module _ {own : ℕ} {masters : List ℕ} {h l h′ : Queue} {u v u′ : List ℕ} {x : Phase} where
+  apt-high : (y : Priority) → (Loaded x h u → Loaded x h′ u′) → Apt own masters h l u v x y
+      → Apt own masters h′ l u′ v x y
   unfolding queueBy rowBy
-  apt-high High f a = record { flying = λ e. f (a .flying e); counted = a .counted; check = a .check; self = a .self }
-  apt-high Low f a = record { flying = a .flying; counted = a .counted; check = a .check; self = a .self }
+  apt-high High f a = record { flying = λ e. f (a .flying e); check = a .check; self = a .self }
+  apt-high Low f a = record { flying = a .flying; check = a .check; self = a .self }
 
-  apt-low : (y : Priority) → (Loaded x h u → Loaded x h′ u′) → Apt limit n own masters l h v u x y
-      → Apt limit n own masters l h′ v u′ x y
+  apt-low : (y : Priority) → (Loaded x h u → Loaded x h′ u′) → Apt own masters l h v u x y
+      → Apt own masters l h′ v u′ x y
   unfolding queueBy rowBy
-  apt-low High f a = record { flying = a .flying; counted = a .counted; check = a .check; self = a .self }
-  apt-low Low f a = record { flying = λ e. f (a .flying e); counted = a .counted; check = a .check; self = a .self }
+  apt-low High f a = record { flying = a .flying; check = a .check; self = a .self }
+  apt-low Low f a = record { flying = λ e. f (a .flying e); check = a .check; self = a .self }
 
 -- ---- what is known at each point of a call: all of it between calls, and all but the phase within one
 unfoldable pub AptIn : Point → Site → Type 0
@@ -258,7 +248,7 @@ module _ (t : Settings) (ts : ℕ) (small : ts ≤ 126) where
   pub poised-moved : {p q : Point} {s s′ : Site} → Move Any p s q s′ → Poised t ts p s → Poised t ts q s′
   unfolding AptIn rest admit without withCore withMasters withDoing withStranger withPs resting freshCore
   poised-moved (lets-go s h) g = record { firm = g .firm; apt = any }
-  poised-moved (rests s) g = record { firm = g .firm; apt = apt-idle _ _ _ _ _ _ _ _ _ }
+  poised-moved (rests s) g = record { firm = g .firm; apt = apt-idle _ _ _ _ _ _ _ }
   poised-moved (notes a s h i j k) g =
       record {
         firm = readdress (g .firm) (g .firm .previous) (let l = h any in omega arith) (g .firm .among);
@@ -281,23 +271,21 @@ module _ (t : Settings) (ts : ℕ) (small : ts ≤ 126) where
   poised-moved (renews a b masters s h i j) g =
       record {
         firm = readdress (g .firm) (previous-small masters _ ts small (g .firm .station)) (omega arith) (h any);
-        apt = apt-idle _ _ _ _ _ _ _ _ _;
+        apt = apt-idle _ _ _ _ _ _ _;
       }
 
   -- ---- acts
-  apt-again : (s : Site) → AptAt s → s .core .doing .sendings + 1 ≤ s .core .settings .retries .0 + 1
-      → AptAt (sentAgain s)
+  apt-again : (s : Site) → AptAt s → AptAt (sentAgain s)
   unfolding once withCore withDoing
-  apt-again s a h =
-      record { flying = a .flying; counted = λ e. (omega arith, h); check = a .check; self = a .self }
+  apt-again s a = a
 
   poised-serves : (starts : Bool) (clock : ℕ) (y : Priority) (s : Site) → choice starts (s .core) clock ≡ Serve y
       → FirmAt t ts s → Poised t ts calm (sent y s)
   unfolding AptIn sendCore withCore withDoing queueOf rowsOf recordIn queueBy rowBy
   poised-serves starts clock High s e f =
-      record { firm = f; apt = apt-sending _ _ _ _ _ _ _ High _ (saw-high starts _ clock e) refl }
+      record { firm = f; apt = apt-sending _ _ _ _ _ _ High _ (saw-high starts _ clock e) refl }
   poised-serves starts clock Low s e f =
-      record { firm = f; apt = apt-sending _ _ _ _ _ _ _ Low _ (saw-low starts _ clock e .0) refl }
+      record { firm = f; apt = apt-sending _ _ _ _ _ _ Low _ (saw-low starts _ clock e .0) refl }
 
   poised-takes : (y : Priority) (r : Record) (x : List ℕ) (s : Site)
       → Accepted (s .core .ts .0) (queueOf y (s .core)) r (length x)
@@ -341,10 +329,10 @@ module _ (t : Settings) (ts : ℕ) (small : ts ≤ 126) where
   poised-acted (serves starts clock y s e) g = poised-serves starts clock y s e (g .firm)
   poised-acted (stops starts clock s e) g = record { firm = g .firm; apt = any }
   poised-acted (quits s) g = record { firm = g .firm; apt = any }
-  poised-acted (passes s) g = record { firm = g .firm; apt = apt-passing _ _ _ _ _ _ _ (s .core) refl }
+  poised-acted (passes s) g = record { firm = g .firm; apt = apt-passing _ _ _ _ _ _ (s .core) refl }
   poised-acted (repasses s e h) g =
-      record { firm = g .firm; apt = unflown _ _ _ _ _ _ _ _ _ _ (ap flight (e any)) (g .apt .check) (g .apt .self) }
-  poised-acted (repeats y s i e h) g = record { firm = g .firm; apt = apt-again s (g .apt) (omega arith) }
+      record { firm = g .firm; apt = unflown _ _ _ _ _ _ _ _ (ap flight (e any)) (g .apt .check) (g .apt .self) }
+  poised-acted (repeats y s i e h) g = record { firm = g .firm; apt = apt-again s (g .apt) }
   poised-acted (closes y p o x s i e c) g =
       record {
         firm = close-firm y o x s (served-some y s i (ap flight (e any) ∙ closing-flight (c any)) (g .apt))

@@ -5,10 +5,11 @@ use mathlib.Core.Bool.{Bool, true, false, true≢false}
 use mathlib.Core.Path.{_≡_, refl, sym, ap, _∙_}
 use mathlib.Core.List.{List, [], _∷_}
 use native.Mathlib.Omega.{arith}
-use Rattle.times.specs.declared.Settings.{Settings}
+use Rattle.request.specs.declared.Record.{Record}
 use Rattle.queue.specs.declared.Queue.{Queue}
 use Rattle.queue.specs.Queue as Q
-use Rattle.rows.specs.Rows.{confirm}
+use Rattle.queue.specs.Queue.{place, grown}
+use Rattle.rows.specs.Rows.{at, put, confirm}
 use Rattle.state.specs.declared.Priority.{Priority}
 use Rattle.state.specs.declared.Priority.the-variants.{High, Low}
 use Rattle.state.specs.declared.Doing.{Doing}
@@ -16,22 +17,23 @@ use Rattle.state.specs.declared.Core.{Core}
 use Rattle.state.specs.declared.Outcome.{Outcome}
 use Rattle.state.specs.World.{Site, Event, aRequest, sends, confirmed, begins, ends, done, withDoing, withQueue}
 use Rattle.state.specs.World.{queueOf, withCore, withMarks, rowsOf, withRows}
-use Rattle.state.specs.Request.{sending, sendCore, once, statusOf, closeOf}
+use Rattle.state.specs.Request.{recordIn, recordOf, sending, sendCore, once, statusOf, closeOf}
 use Rattle.state.specs.Pass.{passing as passingOn}
 use Rattle.state.specs.Fate.{Fate, sentOnce, confirmedWith, holdBegun, holdEnded, fate}
 use Rattle.state.proofs.Cases.{by}
 use Rattle.state.proofs.Phases.{flight}
 use Rattle.state.proofs.Acts.{firstSending, nextSending, closing, sent, sentAgain}
 use Rattle.state.proofs.Places.{Waiting, Shut, Rowed, current-ours, current-ahead, current-shut}
-use Rattle.state.proofs.Places.{waiting-confirmed, shut-now, shut-confirmed, rowed-confirmed}
+use Rattle.state.proofs.Places.{waiting-confirmed, shut-now, shut-confirmed, rowed-confirmed, rowed-grown}
+use Rattle.state.proofs.Places.{ahead-kept, behind-kept}
 use Rattle.state.proofs.Fates.{frozen, fate-one, stays, meets-sent, meets-other, meets-low, meets-begins}
 use Rattle.state.proofs.Fates.{meets-ends, meets-confirmed, meets-another, meets-lower, Fresh, Paid, Gone, Off}
 use Rattle.state.proofs.Fates.{Pausing, fresh-sent, fresh-begun, paid-now, paid-begun, paid-ended, off-ended}
 
--- the retry limit, and the high queue with its row in order
-pub record Ground (limit : ℕ) (t : Settings) (q : Queue) (row : List ℕ) : Type 0 where
-  pub limits : t .retries .0 ≡ limit
+-- the high queue with its row in order, and the request's own limit in its record at place p
+pub record Ground (p limit : ℕ) (q : Queue) (row : List ℕ) : Type 0 where
   pub rowed : Rowed q row
+  pub limits : at row p .limit ≡ limit
 
 -- what the station does, while the request waits behind d others: nothing is being sent; it is itself being sent; one
 -- ahead of it is; or a low request is
@@ -47,17 +49,16 @@ pub record Afloat (g : Doing) (q : Queue) : Type 0 where
   pub some : flight (g .phase) ≡ true → g .served ≡ High → 0 < q .unconfirmed
 
 -- between calls
-pub data Standing (p k limit : ℕ) (t : Settings) (g : Doing) (q : Queue) (row : List ℕ) (f : Fate) : Type 0 where
-  waits : (d : ℕ) → Ground limit t q row → Waiting p d q → Stage k limit d g f → Standing p k limit t g q row f
-  shut : Ground limit t q row → Shut p (f .sendings) q row → Afloat g q → Paid limit f → Standing p k limit t g q row f
-  gone : Gone limit f → Standing p k limit t g q row f
+pub data Standing (p k limit : ℕ) (g : Doing) (q : Queue) (row : List ℕ) (f : Fate) : Type 0 where
+  waits : (d : ℕ) → Ground p limit q row → Waiting p d q → Stage k limit d g f → Standing p k limit g q row f
+  shut : Rowed q row → Shut p (f .sendings) q row → Afloat g q → Paid limit f → Standing p k limit g q row f
+  gone : Gone limit f → Standing p k limit g q row f
 
 -- between acts, where it waits with X
-pub data Between (p limit : ℕ) (X : ℕ → Fate → Type 0) (t : Settings) (q : Queue) (row : List ℕ) (f : Fate) : Type 0
-  where
-    waits : (d : ℕ) → Ground limit t q row → Waiting p d q → X d f → Between p limit X t q row f
-    shut : Ground limit t q row → Shut p (f .sendings) q row → Paid limit f → Between p limit X t q row f
-    gone : Gone limit f → Between p limit X t q row f
+pub data Between (p limit : ℕ) (X : ℕ → Fate → Type 0) (q : Queue) (row : List ℕ) (f : Fate) : Type 0 where
+  waits : (d : ℕ) → Ground p limit q row → Waiting p d q → X d f → Between p limit X q row f
+  shut : Rowed q row → Shut p (f .sendings) q row → Paid limit f → Between p limit X q row f
+  gone : Gone limit f → Between p limit X q row f
 
 -- at a hold's start
 pub record Opening (k d : ℕ) (f : Fate) : Type 0 where
@@ -65,10 +66,10 @@ pub record Opening (k d : ℕ) (f : Fate) : Type 0 where
   pub time : f .holds + d ≤ k
 
 abbrev pub StandsAt : ℕ → ℕ → ℕ → Site → Fate → Type 0
-StandsAt p k limit s f = Standing p k limit (s .core .settings) (s .core .doing) (s .core .high) (s .high .row) f
+StandsAt p k limit s f = Standing p k limit (s .core .doing) (s .core .high) (s .high .row) f
 
 abbrev pub BetweenAt : ℕ → ℕ → (ℕ → Fate → Type 0) → Site → Fate → Type 0
-BetweenAt p limit X s f = Between p limit X (s .core .settings) (s .core .high) (s .high .row) f
+BetweenAt p limit X s f = Between p limit X (s .core .high) (s .high .row) f
 
 clash : {A : Type 0} {b : Bool} → b ≡ true → b ≡ false → A
 clash e h = absurd (true≢false (sym e ∙ h))
@@ -122,36 +123,48 @@ sent-count f n e = e
 pausing-closed : (k d : ℕ) (f : Fate) → 0 < d → Fresh 0 f → f .holds + d ≤ k → Pausing k (d - 1) f
 pausing-closed k d f h z t = record { fresh = z; time = omega arith; slack = λ e. omega arith }
 
-pub ground-closed : {limit : ℕ} {t : Settings} {d : ℕ} (q : Queue) (status m : ℕ) (x row area : List ℕ)
-    → Ground limit t q row → d < q .unconfirmed
-    → Ground limit t (Q.confirmed q) (confirm q status m x row area .row)
-ground-closed q status m x row area g h =
-    record { limits = g .limits; rowed = rowed-confirmed q row status m x area (g .rowed) (omega arith) }
+-- one ahead of it is confirmed, and one is taken behind it: its record stays as it is
+pub ground-closed : {p limit d : ℕ} (q : Queue) (status m : ℕ) (x row area : List ℕ) → Ground p limit q row → 0 < d
+    → Waiting p d q → Ground p limit (Q.confirmed q) (confirm q status m x row area .row)
+ground-closed q status m x row area g h w =
+    record {
+      rowed = rowed-confirmed q row status m x area (g .rowed) (omega (arith, w .within));
+      limits = ap (λ (r : Record). r .limit) (ahead-kept q row status m x area (g .rowed) h w) ∙ g .limits;
+    }
+
+pub ground-grown : {p limit d : ℕ} (q : Queue) (row : List ℕ) (r : Record) → Ground p limit q row
+    → q .confirmed + q .unconfirmed < q .places → Waiting p d q
+    → Ground p limit (grown q) (put row (place q (q .confirmed + q .unconfirmed)) r)
+ground-grown q row r g h w =
+    record {
+      rowed = rowed-grown q row r (g .rowed) h;
+      limits = ap (λ (e : Record). e .limit) (behind-kept q row r (g .rowed) h w) ∙ g .limits;
+    }
 
 module _ (p k limit : ℕ) where
   -- once collected, nothing changes its fate
-  pub still-gone : {t : Settings} {g : Doing} {q : Queue} {row : List ℕ} (l : List Event) (f : Fate) → Gone limit f
-      → Standing p k limit t g q row (fate p l f)
+  pub still-gone : {g : Doing} {q : Queue} {row : List ℕ} (l : List Event) (f : Fate) → Gone limit f
+      → Standing p k limit g q row (fate p l f)
   still-gone l f h = gone (rw (frozen p l f (h .collected)) h)
 
-  pub stayed-gone : {X : ℕ → Fate → Type 0} {t : Settings} {q : Queue} {row : List ℕ} (l : List Event) (f : Fate)
-      → Gone limit f → Between p limit X t q row (fate p l f)
+  pub stayed-gone : {X : ℕ → Fate → Type 0} {q : Queue} {row : List ℕ} (l : List Event) (f : Fate)
+      → Gone limit f → Between p limit X q row (fate p l f)
   stayed-gone l f h = gone (rw (frozen p l f (h .collected)) h)
 
   -- ---- a sending
-  ours-sent : {t′ : Settings} {g′ : Doing} {q′ : Queue} {row′ : List ℕ} (n : ℕ) (o : List ℕ) (t : ℕ) (f : Fate)
-      → n ≡ p → f .collected ≡ false → Standing p k limit t′ g′ q′ row′ (sentOnce f)
-      → Standing p k limit t′ g′ q′ row′ (fate p (sends (aRequest High n) o t ∷ []) f)
+  ours-sent : {g′ : Doing} {q′ : Queue} {row′ : List ℕ} (n : ℕ) (o : List ℕ) (t : ℕ) (f : Fate)
+      → n ≡ p → f .collected ≡ false → Standing p k limit g′ q′ row′ (sentOnce f)
+      → Standing p k limit g′ q′ row′ (fate p (sends (aRequest High n) o t ∷ []) f)
   ours-sent n o t f e c h = rw (fate-one p (sends (aRequest High n) o t) f c, meets-sent p n o t f e) h
 
-  other-sent : {t′ : Settings} {g′ : Doing} {q′ : Queue} {row′ : List ℕ} (n : ℕ) (o : List ℕ) (t : ℕ) (f : Fate)
-      → (n ≡ p → ⊥) → Standing p k limit t′ g′ q′ row′ f
-      → Standing p k limit t′ g′ q′ row′ (fate p (sends (aRequest High n) o t ∷ []) f)
+  other-sent : {g′ : Doing} {q′ : Queue} {row′ : List ℕ} (n : ℕ) (o : List ℕ) (t : ℕ) (f : Fate)
+      → (n ≡ p → ⊥) → Standing p k limit g′ q′ row′ f
+      → Standing p k limit g′ q′ row′ (fate p (sends (aRequest High n) o t ∷ []) f)
   other-sent n o t f e h = rw (stays p (sends (aRequest High n) o t) f (meets-other p n o t f e)) h
 
-  lower-sent : {t′ : Settings} {g′ : Doing} {q′ : Queue} {row′ : List ℕ} (n : ℕ) (o : List ℕ) (t : ℕ) (f : Fate)
-      → Standing p k limit t′ g′ q′ row′ f
-      → Standing p k limit t′ g′ q′ row′ (fate p (sends (aRequest Low n) o t ∷ []) f)
+  lower-sent : {g′ : Doing} {q′ : Queue} {row′ : List ℕ} (n : ℕ) (o : List ℕ) (t : ℕ) (f : Fate)
+      → Standing p k limit g′ q′ row′ f
+      → Standing p k limit g′ q′ row′ (fate p (sends (aRequest Low n) o t ∷ []) f)
   lower-sent n o t f h = rw (stays p (sends (aRequest Low n) o t) f (meets-low p n o t f)) h
 
   -- ---- send
@@ -161,7 +174,7 @@ module _ (p k limit : ℕ) where
       ours (sending-flight High n) (sending-served High n) refl (rw e (fresh-sent 0 f (o .fresh)))
       (rw e (omega arith)) (held-sent k 0 f (o .time))
 
-  first-sent : (d : ℕ) (s : Site) (f : Fate) → Ground limit (s .core .settings) (s .core .high) (s .high .row)
+  first-sent : (d : ℕ) (s : Site) (f : Fate) → Ground p limit (s .core .high) (s .high .row)
       → Waiting p d (s .core .high) → Opening k d f
       → StandsAt p k limit (sent High s) (fate p (firstSending High s ∷ []) f)
   unfolding sendCore withCore withDoing queueOf rowsOf
@@ -171,12 +184,12 @@ module _ (p k limit : ℕ) where
       other-sent _ _ _ f (current-ahead p (suc d) _ (g .rowed .ruled) (omega arith) w)
       (waits (suc d) g w (ahead (sending-flight High _) (sending-served High _) (omega arith) (o .fresh) (o .time)))
 
-  shut-sent : (s : Site) (f : Fate) → Ground limit (s .core .settings) (s .core .high) (s .high .row)
+  shut-sent : (s : Site) (f : Fate) → Rowed (s .core .high) (s .high .row)
       → Shut p (f .sendings) (s .core .high) (s .high .row) → Paid limit f → 0 < s .core .high .unconfirmed
       → StandsAt p k limit (sent High s) (fate p (firstSending High s ∷ []) f)
   unfolding sendCore withCore withDoing queueOf rowsOf
   shut-sent s f g w o h =
-      other-sent _ _ _ f (current-shut p _ _ _ (g .rowed .ruled) h w) (shut g w (record { some = λ a b. h }) o)
+      other-sent _ _ _ f (current-shut p _ _ _ (g .ruled) h w) (shut g w (record { some = λ a b. h }) o)
 
   pub low-sent : (s : Site) (f : Fate) → BetweenAt p limit (Pausing k) s f
       → StandsAt p k limit (sent Low s) (fate p (firstSending Low s ∷ []) f)
@@ -199,14 +212,14 @@ module _ (p k limit : ℕ) where
   unflown h = record { some = λ a b. clash a h }
 
   -- with nothing being sent, the request stands as between acts
-  pub at-rest : {t : Settings} {g : Doing} {q : Queue} {row : List ℕ} {f : Fate} → flight (g .phase) ≡ false
-      → Between p limit (Off k) t q row f → Standing p k limit t g q row f
+  pub at-rest : {g : Doing} {q : Queue} {row : List ℕ} {f : Fate} → flight (g .phase) ≡ false
+      → Between p limit (Off k) q row f → Standing p k limit g q row f
   at-rest h (waits d g w o) = waits d g w (off h o)
   at-rest h (shut g w o) = shut g w (unflown h) o
   at-rest h (gone z) = gone z
 
-  pub rested : {t : Settings} {g : Doing} {q : Queue} {row : List ℕ} {f : Fate} → flight (g .phase) ≡ false
-      → Standing p k limit t g q row f → Between p limit (Off k) t q row f
+  pub rested : {g : Doing} {q : Queue} {row : List ℕ} {f : Fate} → flight (g .phase) ≡ false
+      → Standing p k limit g q row f → Between p limit (Off k) q row f
   rested h (waits d g w (off a o)) = waits d g w o
   rested h (waits d g w (ours a b c e i j)) = clash a h
   rested h (waits d g w (ahead a b c e i)) = clash a h
@@ -223,8 +236,8 @@ module _ (p k limit : ℕ) where
       rw (fate-one p ends f (o .collected), meets-ends p f) (shut g (shut-ended f w) (paid-ended limit f o))
   after-end s f (gone z) = rw (frozen p (ends ∷ []) f (z .collected)) (gone z)
 
-  pub opened : {t : Settings} {q : Queue} {row : List ℕ} (f : Fate) → Between p limit (Off k) t q row f
-      → Between p limit (Opening k) t q row (fate p (begins ∷ []) f)
+  pub opened : {q : Queue} {row : List ℕ} (f : Fate) → Between p limit (Off k) q row f
+      → Between p limit (Opening k) q row (fate p (begins ∷ []) f)
   opened f (waits d g w o) =
       rw (fate-one p begins f (o .fresh .collected), meets-begins p f) (waits d g w (opening-begun k d f o))
   opened f (shut g w o) =
@@ -232,19 +245,19 @@ module _ (p k limit : ℕ) where
   opened f (gone z) = rw (frozen p (begins ∷ []) f (z .collected)) (gone z)
 
   -- ---- a confirmation
-  closes-ours : {t′ : Settings} {q′ : Queue} {row′ : List ℕ} (n m c : ℕ) (f : Fate) → n ≡ p → f .collected ≡ false
-      → Between p limit (Pausing k) t′ q′ row′ (confirmedWith c f)
-      → Between p limit (Pausing k) t′ q′ row′ (fate p (confirmed High n m c ∷ []) f)
+  closes-ours : {q′ : Queue} {row′ : List ℕ} (n m c : ℕ) (f : Fate) → n ≡ p → f .collected ≡ false
+      → Between p limit (Pausing k) q′ row′ (confirmedWith c f)
+      → Between p limit (Pausing k) q′ row′ (fate p (confirmed High n m c ∷ []) f)
   closes-ours n m c f e z h = rw (fate-one p (confirmed High n m c) f z, meets-confirmed p n m c f e) h
 
-  closes-other : {t′ : Settings} {q′ : Queue} {row′ : List ℕ} (n m c : ℕ) (f : Fate) → (n ≡ p → ⊥)
-      → Between p limit (Pausing k) t′ q′ row′ f
-      → Between p limit (Pausing k) t′ q′ row′ (fate p (confirmed High n m c ∷ []) f)
+  closes-other : {q′ : Queue} {row′ : List ℕ} (n m c : ℕ) (f : Fate) → (n ≡ p → ⊥)
+      → Between p limit (Pausing k) q′ row′ f
+      → Between p limit (Pausing k) q′ row′ (fate p (confirmed High n m c ∷ []) f)
   closes-other n m c f e h = rw (stays p (confirmed High n m c) f (meets-another p n m c f e)) h
 
-  closes-low : {t′ : Settings} {q′ : Queue} {row′ : List ℕ} (n m c : ℕ) (f : Fate)
-      → Between p limit (Pausing k) t′ q′ row′ f
-      → Between p limit (Pausing k) t′ q′ row′ (fate p (confirmed Low n m c ∷ []) f)
+  closes-low : {q′ : Queue} {row′ : List ℕ} (n m c : ℕ) (f : Fate)
+      → Between p limit (Pausing k) q′ row′ f
+      → Between p limit (Pausing k) q′ row′ (fate p (confirmed Low n m c ∷ []) f)
   closes-low n m c f h = rw (stays p (confirmed Low n m c) f (meets-lower p n m c f)) h
 
   -- of the high queue
@@ -256,8 +269,9 @@ module _ (p k limit : ℕ) where
   close-high o x s f h e (waits d g w (ours a b c z i j)) =
       let w0 : Waiting p 0 (s .core .high) = rw c at w in
       closes-ours _ _ _ f (current-ours p _ w0) (z .collected)
-      (shut (ground-closed (s .core .high) (statusOf o) (s .core .doing .sendings) x (s .high .row) (s .high .area) g
-      (w .within))
+      (shut
+      (rowed-confirmed (s .core .high) (s .high .row) (statusOf o) (s .core .doing .sendings) x (s .high .area)
+      (g .rowed) (omega (arith, w0 .within)))
       (rw (sent-count f (s .core .doing .sendings) (z .sendings))
       (shut-now p (s .core .doing .sendings) (s .core .high) (s .high .row) (g .rowed) (statusOf o) x
       (s .high .area) w0))
@@ -265,15 +279,15 @@ module _ (p k limit : ℕ) where
   close-high o x s f h e (waits d g w (ahead a b c z i)) =
       closes-other _ _ _ f (current-ahead p d _ (g .rowed .ruled) c w)
       (waits (d - 1)
-      (ground-closed (s .core .high) (statusOf o) (s .core .doing .sendings) x (s .high .row) (s .high .area) g
-      (w .within)) (waiting-confirmed p d _ c w) (pausing-closed k d f c z i))
+      (ground-closed (s .core .high) (statusOf o) (s .core .doing .sendings) x (s .high .row) (s .high .area) g c w)
+      (waiting-confirmed p d _ c w) (pausing-closed k d f c z i))
   close-high o x s f h e (waits d g w (lower a b c)) = absurd (high-low (sym e ∙ b))
   close-high o x s f h e (shut g w a z) =
       let n = a .some h e in
-      closes-other _ _ _ f (current-shut p _ _ _ (g .rowed .ruled) n w)
+      closes-other _ _ _ f (current-shut p _ _ _ (g .ruled) n w)
       (shut
-      (ground-closed (s .core .high) (statusOf o) (s .core .doing .sendings) x (s .high .row) (s .high .area) g n)
-      (shut-confirmed p (f .sendings) (s .core .high) (s .high .row) (g .rowed) (statusOf o)
+      (rowed-confirmed (s .core .high) (s .high .row) (statusOf o) (s .core .doing .sendings) x (s .high .area) g n)
+      (shut-confirmed p (f .sendings) (s .core .high) (s .high .row) g (statusOf o)
       (s .core .doing .sendings) x (s .high .area) n w) z)
   close-high o x s f h e (gone z) = stayed-gone _ f z
 
@@ -291,18 +305,20 @@ module _ (p k limit : ℕ) where
 
   -- ---- "the same octets again"
   pub again-high : (s : Site) (f : Fate) → flight (s .core .doing .phase) ≡ true → s .core .doing .served ≡ High
-      → s .core .doing .sendings ≤ s .core .settings .retries .0 → StandsAt p k limit s f
+      → s .core .doing .sendings ≤ recordOf High s .limit → StandsAt p k limit s f
       → StandsAt p k limit (sentAgain s) (fate p (nextSending High s ∷ []) f)
-  unfolding once withCore withDoing queueOf rowsOf
+  unfolding once withCore withDoing queueOf rowsOf recordOf recordIn
   again-high s f h e l (waits d g w (off a z)) = clash h a
   again-high s f h e l (waits d g w (ours a b c z i j)) =
-      ours-sent _ _ _ f (current-ours p _ (rw c at w)) (z .collected)
-      (waits d g w (ours a b c (fresh-sent _ f z) (omega (arith, g .limits)) (held-sent k d f j)))
+      let now = current-ours p _ (rw c at w) in
+      let m = rw now at l in
+      ours-sent _ _ _ f now (z .collected)
+      (waits d g w (ours a b c (fresh-sent _ f z) (omega (arith, g .limits, m)) (held-sent k d f j)))
   again-high s f h e l (waits d g w (ahead a b c z i)) =
       other-sent _ _ _ f (current-ahead p d _ (g .rowed .ruled) c w) (waits d g w (ahead a b c z i))
   again-high s f h e l (waits d g w (lower a b c)) = absurd (high-low (sym e ∙ b))
   again-high s f h e l (shut g w a z) =
-      other-sent _ _ _ f (current-shut p _ _ _ (g .rowed .ruled) (a .some h e) w)
+      other-sent _ _ _ f (current-shut p _ _ _ (g .ruled) (a .some h e) w)
       (shut g w (record { some = a .some }) z)
   again-high s f h e l (gone z) = still-gone _ f z
 

@@ -122,7 +122,7 @@ orderly-fresh t ts masters points high low s u v g a b c d =
             high = filed-empty ts high u (g .someHigh) (g .fewHigh) a b;
             low = filed-empty ts low v (g .someLow) (g .fewLow) c d;
           };
-      apt = apt-idle _ _ _ _ _ _ _ _ _;
+      apt = apt-idle _ _ _ _ _ _ _;
       started = g .startable .among;
       memory = record { source = omega arith; reply = omega arith };
     }

@@ -10,7 +10,7 @@ use Rattle.choice.specs.Choice.{same, both}
 use Rattle.choice.proofs.Rules.{same-true, true-same, false-same, pick-true, both-true}
 use Rattle.frame.specs.declared.Address.{Address}
 use Rattle.request.specs.declared.Record.{Record}
-use Rattle.request.specs.Record.{unfit}
+use Rattle.request.specs.Record.{unfit, limited}
 use Rattle.request.proofs.Laws.{fit-short}
 use Rattle.queue.specs.declared.Queue.{Queue}
 use Rattle.queue.specs.Queue as Q
@@ -107,12 +107,16 @@ module _ (y : Priority) (n : ℕ) where
     asks-effect (shut status k x h l) f g = any
     asks-effect {u = u} (handed h) f g = λ i. let j = named _ i in rw j (g h j)
 
--- ---- the request at place n that was submitted with the record r and the data x
-module _ (y : Priority) (n ts : ℕ) (r : Record) (x : List ℕ) where
+-- ---- the request at place n that was submitted with the record r and the data x to a station with that retry limit
+module _ (y : Priority) (n ts limit : ℕ) (r : Record) (x : List ℕ) where
+  -- as it was taken
+  abbrev kept : Record
+  kept = limited limit r
+
   -- its octets, when it is the first unconfirmed one
-  carries : (a : Address) (q : Queue) (u : Rows) (marks : List ℕ) → unfit ts r (length x) ≡ 0 → a .0 ≡ ts
-      → Open n r x q u → current q ≡ n → Carries ts y r x (octetsIn a y q marks u)
-  unfolding octetsIn recordIn dataIn headFor closed
+  carries : (a : Address) (q : Queue) (u : Rows) (marks : List ℕ) → unfit ts kept (length x) ≡ 0 → a .0 ≡ ts
+      → Open n kept x q u → current q ≡ n → Carries ts limit y r x (octetsIn a y q marks u)
+  unfolding octetsIn recordIn dataIn headFor closed limited
   carries a q u marks g e o i =
       record {
         mark = markOf marks (r .destination .0);
@@ -121,12 +125,12 @@ module _ (y : Priority) (n ts : ℕ) (r : Record) (x : List ℕ) where
       }
 
   -- it waits until it is confirmed
-  module _ (fit : unfit ts r (length x) ≡ 0) where
+  module _ (fit : unfit ts kept (length x) ≡ 0) where
     short : length x ≤ AREA
-    short = omega (arith, fit-short ts r (length x) fit)
+    short = omega (arith, fit-short ts kept (length x) fit)
 
     pub open-lasts : {a : Address} {q q′ : Queue} {u u′ : Rows} {e : Event} → Filed (a .0) q u
-        → Effect y a q u e q′ u′ → Open n r x q u → confirms y n e ≡ false → Open n r x q′ u′
+        → Effect y a q u e q′ u′ → Open n kept x q u → confirms y n e ≡ false → Open n kept x q′ u′
     unfolding confirms
     open-lasts f (spared e h) o i = o
     open-lasts f (sent marks t h) o i = o
@@ -137,7 +141,7 @@ module _ (y : Priority) (n ts : ℕ) (r : Record) (x : List ℕ) where
     abbrev pub waits : Lasts y ts
     waits =
         record {
-          Fact = Open n r x;
+          Fact = Open n kept x;
           Asks = λ e. Any;
           ends = confirms y n;
           refusal = λ m. any;
@@ -146,26 +150,43 @@ module _ (y : Priority) (n ts : ℕ) (r : Record) (x : List ℕ) where
 
   -- it waits or is confirmed, and what is there is a record of it, until that is collected
   pub data Held (q : Queue) (u : Rows) : Type 0 where
-    pending : Open n r x q u → Held q u
-    settled : (e : Record) (d : List ℕ) → Of r e → Fixed n e d q u → Held q u
+    pending : Open n kept x q u → Held q u
+    settled : (e : Record) (d : List ℕ) → Of limit r e → Fixed n e d q u → Held q u
 
-  of-closed : (b e : Record) (status k many : ℕ) → b ≡ e → Of r e → Of r (closed b status k many)
+  of-closed : (b e : Record) (status k many : ℕ) → b ≡ e → Of limit r e → Of limit r (closed b status k many)
   unfolding closed
   of-closed b e status k many i o =
-      rw i record { service = o .service; destination = o .destination; to = o .to; from = o .from }
+      rw i record {
+        service = o .service;
+        destination = o .destination;
+        to = o .to;
+        from = o .from;
+        reference = o .reference;
+        limits = o .limits;
+        asks = o .asks;
+      }
 
-  of-waiting : (many : ℕ) → Of r (Q.waiting r many)
-  unfolding closed
-  of-waiting many = record { service = refl; destination = refl; to = refl; from = refl }
+  of-waiting : (many : ℕ) → Of limit r (Q.waiting kept many)
+  unfolding closed limited
+  of-waiting many =
+      record {
+        service = refl;
+        destination = refl;
+        to = refl;
+        from = refl;
+        reference = refl;
+        limits = refl;
+        asks = refl;
+      }
 
-  pub held-of : {q : Queue} {u : Rows} → Held q u → Of r (at (u .row) n)
+  pub held-of : {q : Queue} {u : Rows} → Held q u → Of limit r (at (u .row) n)
   held-of (pending o) = rw (o .lies .entry) (of-waiting (length x))
   held-of (settled e d k z) = rw (z .lies .entry) k
 
-  module _ (fit : unfit ts r (length x) ≡ 0) where
+  module _ (fit : unfit ts kept (length x) ≡ 0) where
     -- it is confirmed, or another is
     held-closed : {own : ℕ} (q : Queue) (u : Rows) (f : Filed own q u) (status k : ℕ) (d : List ℕ)
-        → 0 < q .unconfirmed → length d ≤ AREA → (b : Bool) → same (current q) n ≡ b → Open n r x q u
+        → 0 < q .unconfirmed → length d ≤ AREA → (b : Bool) → same (current q) n ≡ b → Open n kept x q u
         → Held (Q.confirmed q) (closedBy q u status k d)
     held-closed q u f status k d h l true e o =
         let i = true-same _ _ e in
@@ -187,19 +208,19 @@ module _ (y : Priority) (n ts : ℕ) (r : Record) (x : List ℕ) where
     held-lasts f (handed h) (settled e m j z) i = settled e m j (fixed-freed _ _ f z (unnamed y n _ i))
 
     pub held-carries : {a : Address} {q : Queue} {u : Rows} (marks : List ℕ) → a .0 ≡ ts → Filed (a .0) q u → Held q u
-        → 0 < q .unconfirmed → current q ≡ n → Carries ts y r x (octetsIn a y q marks u)
+        → 0 < q .unconfirmed → current q ≡ n → Carries ts limit y r x (octetsIn a y q marks u)
     held-carries marks s f (pending o) i j = carries _ _ _ marks fit s o j
     held-carries marks s f (settled e d k z) i j = absurd (fixed-current _ _ f z i j)
 
     pub held-asks : {a : Address} {q q′ : Queue} {u u′ : Rows} {e : Event} → a .0 ≡ ts → Filed (a .0) q u
-        → Effect y a q u e q′ u′ → Held q u → Asks y n (Carries ts y r x) (Of r) e
+        → Effect y a q u e q′ u′ → Held q u → Asks y n (Carries ts limit y r x) (Of limit r) e
     held-asks s f h o = asks-effect y n _ _ h (λ i j marks. held-carries marks s f o i j) (λ i j. held-of o)
 
     abbrev pub holds : Lasts y ts
     holds =
         record {
           Fact = Held;
-          Asks = Asks y n (Carries ts y r x) (Of r);
+          Asks = Asks y n (Carries ts limit y r x) (Of limit r);
           ends = collects y n;
           refusal = asks-refused y n _ _;
           lasts = λ s f h o. (held-asks s f h o, held-lasts f h o);

@@ -7,7 +7,6 @@ use native.Mathlib.Omega.{arith}
 use lib.ListN.{length}
 use Rattle.choice.specs.Choice.{same}
 use Rattle.choice.proofs.Rules.{true-same, false-same}
-use Rattle.times.specs.declared.Settings.{Settings}
 use Rattle.request.specs.declared.Record.{Record}
 use Rattle.request.specs.Record.{DS}
 use Rattle.queue.specs.declared.Queue.{Queue}
@@ -42,7 +41,7 @@ use Rattle.state.proofs.Fates.{meets-collected, meets-uncollected, meet
 use Rattle.state.proofs.Fates.{meets-indicated, meets-refused, Off, Pausing, gone-now}
 use Rattle.state.proofs.Standing.{Afloat, Standing, Opening, waits, shut, gone, StandsAt, BetweenAt, at-rest}
 use Rattle.state.proofs.Standing.{rested, passing-flight, still-gone, low-sent, high-sent, after-end, opened}
-use Rattle.state.proofs.Standing.{close-high, close-low, again-high, again-low}
+use Rattle.state.proofs.Standing.{ground-grown, close-high, close-low, again-high, again-low}
 use Rattle.state.proofs.Drained.{Emptying, emptying-resets, emptying-ends, emptying-high, emptied}
 
 -- a call keeps how it stands
@@ -70,32 +69,28 @@ module _ (p k limit : ℕ) where
   Stands (choosing true) s f = BetweenAt p limit (Opening k) s f
   Stands (choosing false) s f = BetweenAt p limit (Pausing k) s f
   Stands passing s f = BetweenAt p limit (Off k) s f
-  Stands halting s f = Emptying p limit (countOf High (s .core)) (s .core .settings) (s .core .high) (s .high .row) f
-  Stands (clearing a b) s f = Emptying p limit a (s .core .settings) (s .core .high) (s .high .row) f
+  Stands halting s f = Emptying p limit (countOf High (s .core)) (s .core .high) (s .high .row) f
+  Stands (clearing a b) s f = Emptying p limit a (s .core .high) (s .high .row) f
 
   -- one more behind it
-  stage-grown : {t : Settings} {g : Doing} (ts : ℕ) (q : Queue) (row : List ℕ) (r : Record) (n : ℕ) (f : Fate)
-      → Accepted ts q r n → Standing p k limit t g q row f
-      → Standing p k limit t g (grown q) (put row (place q (q .confirmed + q .unconfirmed)) (Q.waiting r n)) f
+  stage-grown : {g : Doing} (ts : ℕ) (q : Queue) (row : List ℕ) (r : Record) (n : ℕ) (f : Fate)
+      → Accepted ts q r n → Standing p k limit g q row f
+      → Standing p k limit g (grown q) (put row (place q (q .confirmed + q .unconfirmed)) (Q.waiting r n)) f
   stage-grown ts q row r n f a (waits d u w s) =
-      waits d (record { limits = u .limits; rowed = rowed-grown q row _ (u .rowed) (a .room) })
-      (waiting-grown p d q w) s
+      waits d (ground-grown q row _ u (a .room) w) (waiting-grown p d q w) s
   stage-grown ts q row r n f a (shut u w b o) =
-      shut (record { limits = u .limits; rowed = rowed-grown q row _ (u .rowed) (a .room) })
-      (shut-grown p (f .sendings) q row (u .rowed) _ (a .room) w)
-      (afloat-grown b)
-      o
+      shut (rowed-grown q row _ u (a .room)) (shut-grown p (f .sendings) q row u _ (a .room) w) (afloat-grown b) o
   stage-grown ts q row r n f a (gone z) = gone z
 
   -- ---- collect
-  ours-collected : {t′ : Settings} {g′ : Doing} {q′ : Queue} {row′ : List ℕ} (n : ℕ) (r : Record) (f : Fate) → n ≡ p
-      → f .collected ≡ false → Standing p k limit t′ g′ q′ row′ (collectedWith (r .count) f)
-      → Standing p k limit t′ g′ q′ row′ (fate p (collected High n r ∷ []) f)
+  ours-collected : {g′ : Doing} {q′ : Queue} {row′ : List ℕ} (n : ℕ) (r : Record) (f : Fate) → n ≡ p
+      → f .collected ≡ false → Standing p k limit g′ q′ row′ (collectedWith (r .count) f)
+      → Standing p k limit g′ q′ row′ (fate p (collected High n r ∷ []) f)
   ours-collected n r f e c h = rw (fate-one p (collected High n r) f c, meets-collected p n r f e) h
 
-  other-collected : {t′ : Settings} {g′ : Doing} {q′ : Queue} {row′ : List ℕ} (n : ℕ) (r : Record) (f : Fate)
-      → (n ≡ p → ⊥) → Standing p k limit t′ g′ q′ row′ f
-      → Standing p k limit t′ g′ q′ row′ (fate p (collected High n r ∷ []) f)
+  other-collected : {g′ : Doing} {q′ : Queue} {row′ : List ℕ} (n : ℕ) (r : Record) (f : Fate)
+      → (n ≡ p → ⊥) → Standing p k limit g′ q′ row′ f
+      → Standing p k limit g′ q′ row′ (fate p (collected High n r ∷ []) f)
   other-collected n r f e h = rw (stays p (collected High n r) f (meets-uncollected p n r f e)) h
 
   -- the oldest confirmed record of the high queue is handed back: its own, or another's
@@ -106,7 +101,7 @@ module _ (p k limit : ℕ) where
   unfolding withCore withQueue queueOf
   handed-high b s f e c (waits d u w g) =
       other-collected _ _ f (first-waiting p d _ (u .rowed .ruled) c w)
-      (waits d (record { limits = u .limits; rowed = rowed-freed _ _ (u .rowed) c })
+      (waits d (record { rowed = rowed-freed _ _ (u .rowed) c; limits = u .limits })
       (waiting-freed p d _ (u .rowed .ruled) c w) g)
   handed-high true s f e c (shut u w a o) =
       let i = true-same _ _ e in
@@ -114,8 +109,7 @@ module _ (p k limit : ℕ) where
   handed-high false s f e c (shut u w a o) =
       let i = false-same _ _ e in
       other-collected _ _ f i
-      (shut (record { limits = u .limits; rowed = rowed-freed _ _ (u .rowed) c })
-      (shut-freed p (f .sendings) _ _ (u .rowed) i w) (afloat-freed a) o)
+      (shut (rowed-freed _ _ u c) (shut-freed p (f .sendings) _ _ u i w) (afloat-freed a) o)
   handed-high b s f e c (gone z) = still-gone p k limit _ f z
 
   -- ---- moves and acts
@@ -130,8 +124,8 @@ module _ (p k limit : ℕ) where
   stands-moved (renews a b masters s h j l) f i = at-rest p k limit refl (emptied p limit j i)
 
   -- an event that makes nothing of it
-  told : {t : Settings} {g : Doing} {q : Queue} {row : List ℕ} (e : Event) (f : Fate) → meets p e f ≡ f
-      → Standing p k limit t g q row f → Standing p k limit t g q row (fate p (e ∷ []) f)
+  told : {g : Doing} {q : Queue} {row : List ℕ} (e : Event) (f : Fate) → meets p e f ≡ f
+      → Standing p k limit g q row f → Standing p k limit g q row (fate p (e ∷ []) f)
   told e f h i = rw (stays p e f h) i
 
   opening : (d : ℕ) (f : Fate) → Pausing k d f → Opening k d f
@@ -169,7 +163,7 @@ module _ (p k limit : ℕ) where
   stands-acted (shows z h d s) f i = told _ f (meets-indicated p h d f) i
   stands-acted (restarts s) f i = emptying-resets p limit (s .core) f i
   stands-acted (breaks s h) f i = emptying-ends p limit f i
-  stands-acted (clears-high a b s h) f i = emptying-high p limit a _ _ _ (s .high .area) f h i
+  stands-acted (clears-high a b s h) f i = emptying-high p limit a _ _ (s .high .area) f h i
   stands-acted (clears-low a b s h) f i = rw (stays p _ f (meets-lower p (current (s .core .low)) DS b f)) i
 
   abbrev standing : Account ungrounded

@@ -2,12 +2,13 @@
 -- put at its place. Assumes nothing.
 use Prim.Native.Nat.{ℕ}
 use mathlib.Core.Bool.{false, true≢false}
-use mathlib.Core.Path.{_≡_, refl, sym, _∙_}
+use mathlib.Core.Path.{_≡_, refl, sym, _∙_, subst}
 use mathlib.Core.List.{List, [], _∷_}
 use native.Mathlib.Omega.{arith}
 use lib.ListN.{length}
 use Rattle.choice.proofs.Rules.{same-true, true-same, is-said}
 use Rattle.request.specs.declared.Record.{Record}
+use Rattle.request.specs.Record.{limited}
 use Rattle.queue.specs.declared.Taken.{Taken}
 use Rattle.queue.specs.Queue as Q
 use Rattle.queue.specs.Queue.{take}
@@ -19,7 +20,7 @@ use Rattle.state.specs.declared.Priority.{Priority}
 use Rattle.state.specs.World.{Site, World, Event, Done, Called, accepted, refused, done, queueOf, rowsOf, withSite}
 use Rattle.state.specs.Refusals.{unlent, lawless}
 use Rattle.state.specs.Calls as Calls
-use Rattle.state.specs.Calls.{called, refuse, submitting}
+use Rattle.state.specs.Calls.{called, refuse, submitting, limitedIn}
 use Rattle.state.specs.Runs.{submit, call}
 use Rattle.state.proofs.Cases.{by}
 use Rattle.state.proofs.Acts.{taking, grownBy}
@@ -68,9 +69,17 @@ module _ (y : Priority) (r : Record) (x : List ℕ) (w : World) where
       (by (λ (d : Done). Submission y r x w (called d w)) _ _ _ (λ b. admits l g a e)
       (λ b. absurd (true≢false (sym (same-true refl) ∙ b))))
 
-  pub submission : Submission y r x w (call (submit y r x) w)
-  unfolding call Calls.submit
-  submission =
-      by (Submission y r x w) _ _ _ (λ e. declines 21 (λ z. omega (arith, z)))
-      (λ l. by (Submission y r x w) _ _ _ (λ e. declines 29 (λ z. omega (arith, z)))
-      (λ g. submission-by (is-said l) (is-said g) (outcome _ _ r x _ _)))
+-- the record is the one that was given, with the limit that it goes by
+pub submission : (y : Priority) (r : Record) (x : List ℕ) (w : World)
+    → Submission y (limitedIn w r) x w (call (submit y r x) w)
+unfolding call Calls.submit
+submission y r x w =
+    by (Submission y (limitedIn w r) x w) _ _ _ (λ e. declines 21 (λ z. omega (arith, z)))
+    (λ l. by (Submission y (limitedIn w r) x w) _ _ _ (λ e. declines 29 (λ z. omega (arith, z)))
+    (λ g. submission-by y (limitedIn w r) x w (is-said l) (is-said g) (outcome _ _ (limitedIn w r) x _ _)))
+
+-- likewise by a limit that is the station's
+pub submission-by-limit : {limit : ℕ} (y : Priority) (r : Record) (x : List ℕ) (w : World)
+    → w .site .core .settings .retries .0 ≡ limit → Submission y (limited limit r) x w (call (submit y r x) w)
+submission-by-limit y r x w e =
+    subst (λ (n : ℕ). Submission y (limited n r) x w (call (submit y r x) w)) e (submission y r x w)

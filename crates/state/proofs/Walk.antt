@@ -427,11 +427,12 @@ filed {c} w a h f i =
     carried {c = c}
     (record { trail = act a stop; few = rw f (solo _ h); set = rw i (unchanged c); started = refl; memory = λ m. m })
 
-course-submit : {y : Priority} {r : Record} {x : List ℕ} {w : World} {d : Called} → Submission y r x w d
-    → Course w (submit y r x) d
+-- of a submit that was given a record, by the one that it took
+course-submit : {y : Priority} {r : Record} {x : List ℕ} {w : World} {d : Called} (given : Record)
+    → Submission y r x w d → Course w (submit y given x) d
 unfolding sendingOf filing withCore
-course-submit (declines m h) = declined m
-course-submit {y} {r} {x} {w} (admits l g a e) =
+course-submit given (declines m h) = declined m
+course-submit {y} {r} {x} {w} given (admits l g a e) =
     filed w (Acts.takes y r x (w .site) a e) refl refl (set-rows y _ _)
 
 -- a fact of what a queue hands back: of every refusal, and of its oldest confirmed record
@@ -451,7 +452,7 @@ course-collect y w =
 
 pub course : (c : Call) (w : World) → Course w c (call c w)
 unfolding call Calls.collect Calls.reset Calls.frame Calls.sent Calls.slot
-course (submit y r x) w = course-submit (submission y r x w)
+course (submit y r x) w = course-submit r (submission y r x w)
 course (frame clock room high low octets out) w =
     by (Course w (frame clock room high low octets out)) _ _ _
     (λ e. let u = short-updates out (length high) (length low) w (true-same _ _ e) in carried

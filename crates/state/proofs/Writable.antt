@@ -21,7 +21,7 @@ use Rattle.frame.proofs.Lengths.{length-unit}
 use Rattle.frame_laws.proofs.Theorems.{read-written}
 use Rattle.request.specs.declared.Record.{Record}
 use Rattle.frame.specs.Access.{NONE, accessOf, pointOf}
-use Rattle.request.specs.Record.{SDN, beyond, extensions, misaddressed, mispointed, unfit}
+use Rattle.request.specs.Record.{SDN, beyond, extensions, misaddressed, mispointed, unfit, limited}
 use Rattle.request.proofs.Laws.{fit, fit-short}
 use Rattle.state.specs.declared.Priority.{Priority}
 use Rattle.state.specs.declared.Priority.the-variants.{High, Low}
@@ -127,11 +127,13 @@ unfolding controlFor
 control-bits p s m = bits-by (same s SDN) (fcbOf m) (fcvOf m) (serviceOf p s)
 
 -- the octets that carry a request are read as it was submitted
-pub reads : (ts : ℕ) (p : Priority) (r : Record) (x o : List ℕ) → ts ≤ 126 → Carries ts p r x o → Reads ts p r x o
-unfolding headFor
-reads ts p r x o t c =
+pub reads : (ts limit : ℕ) (p : Priority) (r : Record) (x o : List ℕ) → ts ≤ 126 → Carries ts limit p r x o
+    → Reads ts p r x o
+unfolding headFor limited
+reads ts limit p r x o t c =
     let h : Head = headFor (record { 0 = ts }) p r (c .mark) in
-    let z = read-written (Frame h) x (writable (record { 0 = ts }) p r (c .mark) x (c .fit) t) in
+    let z = read-written (Frame h) x
+    (writable (record { 0 = ts }) p (limited limit r) (c .mark) x (c .fit) t) in
     record {
       head = h;
       part = z .0;

@@ -16,7 +16,7 @@ use Rattle.ring.specs.Ring.{previousOf}
 use Rattle.times.specs.declared.Settings.{Settings}
 use Rattle.times.specs.declared.Sending.the-variants.{Reply as ReplySending}
 use Rattle.request.specs.declared.Record.{Record}
-use Rattle.request.specs.Record.{DS}
+use Rattle.request.specs.Record.{DS, limited}
 use Rattle.queue.specs.declared.Queue.{Queue}
 use Rattle.queue.specs.declared.Taken.{Taken}
 use Rattle.queue.specs.declared.Collected.{Collected}
@@ -111,6 +111,10 @@ start s ts masters points high low =
     noRows)))))))
 
 -- ---- submit
+-- the record as it is looked at: "the station's limit only fills records that ask for it"
+abbrev pub limitedIn : World → Record → Record
+limitedIn w r = limited (w .site .core .settings .retries .0) r
+
 unfoldable pub submitting : Priority → Left Taken → Site → Done
 submitting p l s =
     pick (same (l .answer .refused) 0)
@@ -124,7 +128,7 @@ submit p r x w =
     (pick (said (lawless (w .site .core) (w .site .masters) (w .started) (w .memory .kept))) (refuse 29 w)
     (called
     (submitting p
-    (submitted (w .site .core .ts .0) (queueOf p (w .site .core)) r x (rowsOf p (w .site) .row)
+    (submitted (w .site .core .ts .0) (queueOf p (w .site .core)) (limitedIn w r) x (rowsOf p (w .site) .row)
     (rowsOf p (w .site) .area)) (w .site))
     w))
 

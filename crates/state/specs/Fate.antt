@@ -148,7 +148,7 @@ pub record Served (k limit : ℕ) (f : Fate) : Type 0 where
   pub inTime : k < f .holds → f .confirmations ≡ 1
   -- "or at a reset if one comes sooner"
   pub atReset : f .reset ≡ true → f .confirmations ≡ 1
-  -- "It is sent at most once more than the retry limit"
+  -- "It is sent at most once more than the retry limit", of order 6 its record's own
   pub few : f .sendings ≤ limit + 1
   -- "its confirmation carries the number of times it was sent", and so does the record that collect hands back
   pub counted : f .confirmations ≡ 1 → f .count ≡ f .sendings

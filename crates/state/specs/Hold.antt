@@ -19,7 +19,7 @@ use Rattle.state.specs.declared.Verdict.{Verdict}
 use Rattle.state.specs.declared.Verdict.the-variants.{Plausible, Vain, Foreign}
 use Rattle.state.specs.World.{Site, Done, begins, ends, still, done, andThen, withDoing, withHold, withStranger}
 use Rattle.state.specs.World.{withPs, withCore, withMasters}
-use Rattle.state.specs.Request.{send, again, close}
+use Rattle.state.specs.Request.{recordOf, send, again, close}
 use Rattle.state.specs.Pass.{pass}
 
 -- no station: the stranger when no first token is remembered
@@ -97,10 +97,10 @@ unfoldable pub ended : Outcome → List ℕ → ℕ → Site → Done
 ended o x clock s = andThen (close o x s) (choose false clock)
 
 -- "A refused frame, any other reply, or slot expiry: the same octets again, up to the retry limit; then confirmation
--- NA and the mark unknown"
+-- NA and the mark unknown"; of order 6: up to "the record's own limit"
 unfoldable pub retry : ℕ → Site → Done
 retry clock s =
-    pick (less (s .core .settings .retries .0) (s .core .doing .sendings)) (ended Lost [] clock s) (again s)
+    pick (less (recordOf (s .core .doing .served) s .limit) (s .core .doing .sendings)) (ended Lost [] clock s) (again s)
 
 -- "A request or token frame: NA, mark unknown, hold over, Idle; that frame has no other effect"
 unfoldable pub over : Site → Done

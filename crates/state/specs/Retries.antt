@@ -1,7 +1,8 @@
 -- Document 01, "Requests": "the same octets again, up to the retry limit", by the history: how often a request was sent
--- before. And document 02, order 8, "No retries unless asked": what becomes of a request that is lost with the standard
+-- before. Document 02, order 6: what becomes of requests with limits of their own. And order 8, "No retries unless asked": what becomes of a request that is lost with the standard
 -- settings. Assumes nothing.
 use Prim.Native.Nat.{ℕ, _+_}
+use mathlib.Core.Bool.{true, false}
 use mathlib.Core.List.{List, [], _∷_}
 use Rattle.choice.specs.Choice.{pick, same, both}
 use Rattle.request.specs.Record.{NA}
@@ -11,7 +12,7 @@ use Rattle.state.specs.World.{What, aRequest, aToken, aReply, Event, acc
 use Rattle.state.specs.World.{collected, indicated, resets, refused}
 use Rattle.state.specs.Runs.{submit, slot, collect}
 use Rattle.state.specs.Counts.{alike}
-use Rattle.state.specs.Twelve.{Step, hears, toSeven, sends6D, passes, tokenFrom5}
+use Rattle.state.specs.Twelve.{Step, hears, toSevenWith, toSeven, sends6D, passes, tokenFrom5}
 
 -- ---- how often the request at place n of the queue p was sent, since the confirmation of the one before it there or the
 -- last reset: after a sending, after an event, and after events in a row
@@ -40,12 +41,43 @@ sendingsLast p n (e ∷ l) k = sendingsLast p n l (sendingsAfter p n e k)
 -- again; slot at 1200: NA, count 1, token. Collect: both NA, count 1
 unfoldable pub unrepeated : ℕ → List Step
 unrepeated clock =
-    record { call = submit High (toSeven 0 0) []; told = accepted High 0 ∷ [] }
-    ∷ (record { call = submit High (toSeven 0 0) []; told = accepted High 1 ∷ [] }
+    record { call = submit High (toSeven 0 0 0) []; told = accepted High 0 ∷ [] }
+    ∷ (record { call = submit High (toSeven 0 0 0) []; told = accepted High 1 ∷ [] }
     ∷ (record { call = hears 100 tokenFrom5; told = begins ∷ (sends6D 0 ∷ []) }
     ∷ (record { call = slot clock 255; told = confirmed High 0 NA 1 ∷ (ends ∷ (passes ∷ [])) }
     ∷ (record { call = hears 600 tokenFrom5; told = begins ∷ (sends6D 1 ∷ []) }
     ∷ (record { call = slot 1200 255; told = confirmed High 1 NA 1 ∷ (ends ∷ (passes ∷ [])) }
-    ∷ (record { call = collect High; told = collected High 0 (toSeven NA 1) ∷ [] }
-    ∷ (record { call = collect High; told = collected High 1 (toSeven NA 1) ∷ [] }
+    ∷ (record { call = collect High; told = collected High 0 (toSeven 0 NA 1) ∷ [] }
+    ∷ (record { call = collect High; told = collected High 1 (toSeven 0 NA 1) ∷ [] }
     ∷ [])))))))
+
+-- ---- order 6 at a station with the retry limit 1: SRD high to 7 with the reference 4711 and a limit of 2; with a limit of 0;
+-- with the reference 7, asking for the station's limit, whatever limit it has. One with a limit of 16 is refused 30, with
+-- every place in use too, where one with 15 is refused 27
+unfoldable pub submits : List Step
+submits =
+    record { call = submit High (toSevenWith 4711 2 false 0 0) []; told = accepted High 0 ∷ [] }
+    ∷ (record { call = submit High (toSevenWith 0 0 false 0 0) []; told = accepted High 1 ∷ [] }
+    ∷ (record { call = submit High (toSevenWith 7 200 true 0 0) []; told = accepted High 2 ∷ [] }
+    ∷ (record { call = submit High (toSevenWith 0 16 false 0 0) []; told = refused 30 ∷ [] }
+    ∷ (record { call = submit High (toSevenWith 0 15 false 0 0) []; told = accepted High 3 ∷ [] }
+    ∷ (record { call = submit High (toSevenWith 0 16 false 0 0) []; told = refused 30 ∷ [] }
+    ∷ (record { call = submit High (toSevenWith 0 15 false 0 0) []; told = refused 27 ∷ [] }
+    ∷ []))))))
+
+-- token from 5 at 100: 6D sent; slots: the same twice; NA, count 3, token. Token from 5 at 600: 6D sent; slot: NA, count 1,
+-- and with time left the third; slots: the same; NA, count 2, and the fourth. Collect: each with its reference and its limit
+unfoldable pub goByTheirLimits : List Step
+goByTheirLimits =
+    record { call = hears 100 tokenFrom5; told = begins ∷ (sends6D 0 ∷ []) }
+    ∷ (record { call = slot 200 255; told = sends6D 0 ∷ [] }
+    ∷ (record { call = slot 300 255; told = sends6D 0 ∷ [] }
+    ∷ (record { call = slot 400 255; told = confirmed High 0 NA 3 ∷ (ends ∷ (passes ∷ [])) }
+    ∷ (record { call = hears 600 tokenFrom5; told = begins ∷ (sends6D 1 ∷ []) }
+    ∷ (record { call = slot 700 255; told = confirmed High 1 NA 1 ∷ (sends6D 2 ∷ []) }
+    ∷ (record { call = slot 800 255; told = sends6D 2 ∷ [] }
+    ∷ (record { call = slot 900 255; told = confirmed High 2 NA 2 ∷ (sends6D 3 ∷ []) }
+    ∷ (record { call = collect High; told = collected High 0 (toSevenWith 4711 2 false NA 3) ∷ [] }
+    ∷ (record { call = collect High; told = collected High 1 (toSevenWith 0 0 false NA 1) ∷ [] }
+    ∷ (record { call = collect High; told = collected High 2 (toSevenWith 7 1 true NA 2) ∷ [] }
+    ∷ []))))))))))

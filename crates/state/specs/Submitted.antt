@@ -16,7 +16,7 @@ use Rattle.frame.specs.Access.{pointOf}
 use Rattle.frame.specs.Format.{octets}
 use Rattle.frame.specs.Reading.{read, shown}
 use Rattle.request.specs.declared.Record.{Record}
-use Rattle.request.specs.Record.{unfit}
+use Rattle.request.specs.Record.{unfit, limited}
 use Rattle.rows.specs.Rows.{at, content}
 use Rattle.state.specs.declared.Priority.{Priority}
 use Rattle.state.specs.World.{Rows, World, Event, accepted, begins, ends, sends, confirmed, collected}
@@ -26,12 +26,12 @@ use Rattle.state.specs.Counts.{alike}
 use Rattle.state.specs.Runs.{Call, call}
 use Rattle.state.specs.Runs.Call.{submit, frame, sent, slot, reset, collect}
 
--- the octets of the frame that a fit request with the record r and the data x makes in the queue p of station TS:
--- from TS to r's destination, with r's access points and service, and with x; FCB and FCV are those of some mark
--- (Counts.antt says of which)
-pub record Carries (ts : ℕ) (p : Priority) (r : Record) (x o : List ℕ) : Type 0 where
+-- the octets of the frame that a fit request with the record r and the data x makes in the queue p of station TS with
+-- that retry limit: from TS to r's destination, with r's access points and service, and with x; FCB and FCV are those
+-- of some mark (Counts.antt says of which)
+pub record Carries (ts limit : ℕ) (p : Priority) (r : Record) (x o : List ℕ) : Type 0 where
   pub mark : ℕ
-  pub fit : unfit ts r (length x) ≡ 0
+  pub fit : unfit ts (limited limit r) (length x) ≡ 0
   pub is : o ≡ octets (Frame (headFor (record { 0 = ts }) p r mark)) x
 
 -- octets that a reader takes for that frame
@@ -48,12 +48,17 @@ pub record Reads (ts : ℕ) (p : Priority) (r : Record) (x o : List ℕ) : Type 
   pub control : head .control ≡ Request (serviceOf p (r .service)) fcb fcv
   pub octets : shown o part ≡ x
 
--- a record e of the request that was submitted with the record r: its service, its destination and its access points
-pub record Of (r e : Record) : Type 0 where
+-- a record e of the request that was submitted with the record r to a station with that retry limit: its service, its
+-- destination, its access points, and its reference, "handed back untouched"; its limit is its own, or the station's if
+-- it asked for that
+pub record Of (limit : ℕ) (r e : Record) : Type 0 where
   pub service : e .service ≡ r .service
   pub destination : e .destination ≡ r .destination
   pub to : e .to ≡ r .to
   pub from : e .from ≡ r .from
+  pub reference : e .reference ≡ r .reference
+  pub limits : e .limit ≡ pick (r .asks) limit (r .limit)
+  pub asks : e .asks ≡ r .asks
 
 -- at place n of a row and its data area lie the record e and, in as many octets of data, d
 pub record Lies (n : ℕ) (e : Record) (many : ℕ) (d : List ℕ) (u : Rows) : Type 0 where
@@ -119,14 +124,14 @@ ledger p n [] w e = e
 ledger p n (c ∷ l) w e = ledger p n l (call c w .world) (enters p n c (call c w .events) e)
 
 -- octets that carry the request of an entry, octets that a reader takes for it, and records of it
-unfoldable pub CarriesEntry : ℕ → Priority → Entry → List ℕ → Type 0
-CarriesEntry ts p blank o = ⊥
-CarriesEntry ts p (entry r x) o = Carries ts p r x o
+unfoldable pub CarriesEntry : ℕ → ℕ → Priority → Entry → List ℕ → Type 0
+CarriesEntry ts limit p blank o = ⊥
+CarriesEntry ts limit p (entry r x) o = Carries ts limit p r x o
 
 unfoldable pub ReadsEntry : ℕ → Priority → Entry → List ℕ → Type 0
 ReadsEntry ts p blank o = ⊥
 ReadsEntry ts p (entry r x) o = Reads ts p r x o
 
-unfoldable pub OfEntry : Entry → Record → Type 0
-OfEntry blank e = ⊥
-OfEntry (entry r x) e = Of r e
+unfoldable pub OfEntry : ℕ → Entry → Record → Type 0
+OfEntry limit blank e = ⊥
+OfEntry limit (entry r x) e = Of limit r e

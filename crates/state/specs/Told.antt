@@ -1,6 +1,7 @@
 -- What the caller of frame, sent and slot is told, by the events of its call: the refusal, the octets to send and their
 -- wait, and what is indicated. Assumes nothing.
 use Prim.Native.Nat.{ℕ}
+use mathlib.Core.Bool.{false}
 use mathlib.Core.Path.{_≡_}
 use mathlib.Core.List.{List, [], _∷_}
 use lib.ListN.{length, replicate}
@@ -60,6 +61,9 @@ untold =
             length = 0;
             status = WAITING;
             count = 0;
+            reference = 0;
+            limit = 0;
+            asks = false;
           };
     }
 

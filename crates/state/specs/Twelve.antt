@@ -1,7 +1,7 @@
 -- Document 01, "Twelve to prove as one tabled statement": each case as the page has it, what is given and what must
 -- come out, and `Twelve`, which says that the definitions give all of them. Assumes nothing.
-use Prim.Native.Nat.{ℕ}
-use mathlib.Core.Bool.{true, false}
+use Prim.Native.Nat.{ℕ, _*_}
+use mathlib.Core.Bool.{Bool, true, false}
 use mathlib.Core.List.{List, [], _∷_, _++_}
 use mathlib.Core.Path.{_≡_}
 use lib.ListN.{length, replicate}
@@ -27,7 +27,8 @@ use Rattle.times.specs.declared.Reckoned.the-variants.{Reckon}
 use Rattle.times.specs.Times.{reckoned, standard}
 use Rattle.ring.specs.Ring.{enter}
 use Rattle.request.specs.declared.Record.{Record}
-use Rattle.request.specs.Record.{SRD, NA}
+use Rattle.request.specs.Record.{SRD, NA, SIZE}
+use Rattle.queue.specs.Queue.{AREA}
 use Rattle.frame.specs.Access.{NONE}
 use Rattle.state.specs.declared.Priority.the-variants.{High}
 use Rattle.state.specs.Calls.{Started, Unstarted, Station}
@@ -198,7 +199,7 @@ retrying limit =
 
 -- its rows, all octets 0
 abbrev pub fourPlaces : Rows
-fourPlaces = record { row = replicate 28 0; area = replicate 984 0 }
+fourPlaces = record { row = replicate (SIZE * 4) 0; area = replicate (AREA * 4) 0 }
 
 -- what a start gave does as a table has it: each call by itself, and the run of them; a refused start does not
 pub record Goes (l : List Step) (w : World) : Type 0 where
@@ -213,9 +214,10 @@ Does l (Station s) = Goes l (worldOf s fourPlaces fourPlaces)
 abbrev pub hears : ℕ → List ℕ → Call
 hears clock s = frame clock true [] [] s 255
 
--- the request of a record: an SRD to 7 without access points and data
-abbrev pub toSeven : ℕ → ℕ → Record
-toSeven status count =
+-- the record of a request: an SRD to 7 without access points and data, with a reference, a limit, and whether it asks for
+-- the station's
+abbrev pub toSevenWith : ℕ → ℕ → Bool → ℕ → ℕ → Record
+toSevenWith reference limit asks status count =
     record {
       service = SRD;
       destination = record { 0 = 7 };
@@ -224,7 +226,14 @@ toSeven status count =
       length = 0;
       status = status;
       count = count;
+      reference = reference;
+      limit = limit;
+      asks = asks;
     }
+
+-- one that asks for it, and the limit
+abbrev pub toSeven : ℕ → ℕ → ℕ → Record
+toSeven limit status count = toSevenWith 0 limit true status count
 
 -- the first request to 7, with FC 6D, from a place of the high queue, and the token to 5; both after Tid1
 abbrev pub sends6D : ℕ → Event
@@ -240,8 +249,8 @@ tokenFrom5 = 0xDC ∷ (0x02 ∷ (0x05 ∷ []))
 -- same; slot: NA, count 2, token DC 05 02"; the slots at any clock
 unfoldable pub eleven : ℕ → ℕ → List Step
 eleven first second =
-    record { call = submit High (toSeven 0 0) []; told = accepted High 0 ∷ [] }
-    ∷ (record { call = submit High (toSeven 0 0) []; told = accepted High 1 ∷ [] }
+    record { call = submit High (toSeven 0 0 0) []; told = accepted High 0 ∷ [] }
+    ∷ (record { call = submit High (toSeven 0 0 0) []; told = accepted High 1 ∷ [] }
     ∷ (record { call = hears 100 tokenFrom5; told = begins ∷ (sends6D 0 ∷ []) }
     ∷ (record { call = slot first 255; told = sends6D 0 ∷ [] }
     ∷ (record { call = slot second 255; told = confirmed High 0 NA 2 ∷ (ends ∷ (passes ∷ [])) }
@@ -262,8 +271,8 @@ twelve third =
 -- and what collect hands back after both: NA with count 2, NR with count 1, and then 28
 unfoldable pub handed : List Step
 handed =
-    record { call = collect High; told = collected High 0 (toSeven NA 2) ∷ [] }
-    ∷ (record { call = collect High; told = collected High 1 (toSeven (codeNumber Nr) 1) ∷ [] }
+    record { call = collect High; told = collected High 0 (toSeven 1 NA 2) ∷ [] }
+    ∷ (record { call = collect High; told = collected High 1 (toSeven 1 (codeNumber Nr) 1) ∷ [] }
     ∷ (record { call = collect High; told = Event.refused 28 ∷ [] }
     ∷ []))
 

@@ -1,5 +1,5 @@
 -- What submit and collect leave of a state and one queue's row that was lent, by what they decided. Assumes nothing.
-use Prim.Native.Nat.{ℕ}
+use Prim.Native.Nat.{ℕ, _≤_}
 use native.Mathlib.Omega.{arith}
 use mathlib.Core.Bool.{Bool, true, false}
 use mathlib.Core.Path.{_≡_, refl, sym, ap, _∙_}
@@ -8,6 +8,7 @@ use Rattle.choice.specs.Choice.{pick, said, same}
 use Rattle.choice.proofs.Rules.{pick-true, pick-false, same-true, same-false, true-same, false-same, passed}
 use Rattle.choice.proofs.Rules.{is-said}
 use Rattle.request.specs.declared.Record.{Record}
+use Rattle.request.specs.Record.{limited}
 use Rattle.queue.specs.declared.Queue.{Queue}
 use Rattle.queue.specs.declared.Taken.{Taken}
 use Rattle.queue.specs.declared.Collected.{Collected}
@@ -87,13 +88,17 @@ submitted-kept ts q n x row area (as-it-was k z e) h = rw (← e) (refl, refl)
 submitted-kept ts q n x row area (with-it a e) h = absurd (h (rw (← e)))
 
 module _ (p : Priority) (c : Core) (masters started : List ℕ) (k : Kept) (n : Record) (x : List ℕ) (r : Rows) where
+  abbrev own : Record
+  own = limited (c .settings .retries .0) n
+
   taking-kept-by : (u l : Bool) → unlent (queueOf p c) r ≡ u → lawless c masters started k ≡ l
       → (taking p c masters started k n x r .answer .refused ≡ 0 → ⊥)
       → (taking p c masters started k n x r .row ≡ r .row) × (taking p c masters started k n x r .area ≡ r .area)
   unfolding taking refusalOf pick same said
   taking-kept-by true l e f h = rw e (refl, refl)
   taking-kept-by false true e f h = rw (e, f) (refl, refl)
-  taking-kept-by false false e f h = rw (e, f) (submitted-kept _ _ n x _ _ (outcome _ _ n x _ _) (rw (e, f) at h))
+  taking-kept-by false false e f h =
+      rw (e, f) (submitted-kept _ _ own x _ _ (outcome _ _ own x _ _) (rw (e, f) at h))
 
   taking-kept : (taking p c masters started k n x r .answer .refused ≡ 0 → ⊥)
       → (taking p c masters started k n x r .row ≡ r .row) × (taking p c masters started k n x r .area ≡ r .area)
@@ -108,6 +113,14 @@ unrefused-lent p c masters started k r e =
     let u = passed _ 21 _ (omega arith) e in
     let l = passed _ 29 _ (omega arith) (u .1) in
     (ruled-of c p (lawful c masters started k (is-said (l .0))), lent-rows (queueOf p c) r (is-said (u .0)))
+
+-- and the station's retry limit is in its rule
+pub unrefused-limit : (c : Core) (masters started : List ℕ) (k : Kept) (u : Bool)
+    → refusalOf u c masters started k ≡ 0 → c .settings .retries .0 ≤ 15
+unfolding refusalOf
+unrefused-limit c masters started k u e =
+    let l = passed _ 29 _ (omega arith) (passed _ 21 _ (omega arith) e .1) in
+    lawful c masters started k (is-said (l .0)) .retries
 
 -- the call, refused and carried out, by what the code finds
 module _ (s : State) (p : Priority) (n : Record) (x row area : List ℕ) {t : Taken} {row′ area′ : List ℕ}

@@ -5,6 +5,7 @@ use mathlib.Core.Bool.{Bool}
 use mathlib.Core.List.{List}
 use Rattle.choice.specs.Choice.{pick, same, said}
 use Rattle.request.specs.declared.Record.{Record}
+use Rattle.request.specs.Record.{limited}
 use Rattle.queue.specs.declared.Taken.{Taken}
 use Rattle.queue.specs.declared.Collected.{Collected}
 use Rattle.queue.specs.declared.Collected.the-variants.{Refused}
@@ -25,11 +26,11 @@ refusalOf unfit c masters started k =
     (pick (said (lawless c masters started k)) 29
     0)
 
--- what the row's own submit says, unless that refuses; likewise of collect
+-- what the row's own submit says of the record with the limit that it goes by, unless that refuses; likewise of collect
 unfoldable pub taking : Priority → Core → List ℕ → List ℕ → Kept → Record → List ℕ → Rows → Left Taken
 taking p c masters started k r x w =
     pick (same (refusalOf (unlent (queueOf p c) w) c masters started k) 0)
-    (submitted (c .ts .0) (queueOf p c) r x (w .row) (w .area))
+    (submitted (c .ts .0) (queueOf p c) (limited (c .settings .retries .0) r) x (w .row) (w .area))
     (left (refuse (refusalOf (unlent (queueOf p c) w) c masters started k) (queueOf p c) r) (w .row) (w .area))
 
 unfoldable pub handing : Priority → Core → List ℕ → List ℕ → Kept → Rows → Collected

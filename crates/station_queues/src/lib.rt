@@ -1,6 +1,7 @@
 // The station's calls submit and collect: each takes any state, any row and any octets, and answers. Assumes nothing.
 ghost use mathlib.Core.Path.{_≡_};
 ghost use Prim.Native.Nat.{_≤_};
+ghost use Rattle.request.specs.Record.{limited as Record·limited};
 ghost use Rattle.queue.specs.Queue.{misfit};
 ghost use Rattle.rows.specs.Rows.{left};
 ghost use Rattle.state.specs.World.{rows};
@@ -45,6 +46,15 @@ pub fn refusal(
     0
 }
 
+// A record with the limit that it goes by at a station of that core.
+pub fn limited(c: Core, r: Record) -> Record
+    requires { ⌜ c .settings .retries .0 ≤ 15 ⌝ }
+    ensures { λ x. ⌜ x ≡ Record·limited (c .settings .retries .0) r ⌝ }
+{
+    let settings = c.settings;
+    request::limited(settings.retries.0 as u8, r)
+}
+
 // What submit decides, and puts in the row and the data area.
 fn taking(
     p: Priority,
@@ -76,7 +86,7 @@ fn taking(
     if n != 0 {
         return queue::refuse(n, q, r);
     }
-    rows::submit(ts, q, r, x, row, area)
+    rows::submit(ts, q, limited(c, r), x, row, area)
 }
 
 // What submit answers, by what it decided.
@@ -165,6 +175,9 @@ fn no_record() -> Record
         length: 0,
         status: request::WAITING,
         count: 0,
+        reference: 0,
+        limit: 0,
+        asks: false,
     }
 }
 

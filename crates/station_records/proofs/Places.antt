@@ -9,7 +9,7 @@ use lib.ListN.{length, replicate, length-replicate}
 use Rattle.choice.specs.Choice.{pick, less, same}
 use Rattle.choice.proofs.Rules.{same-true, same-false, true-same, false-same, if-same, unless-same}
 use Rattle.request.specs.declared.Record.{Record}
-use Rattle.request.specs.Record.{SIZE}
+use Rattle.request.specs.Record.{SIZE, limited}
 use Rattle.queue.specs.declared.Queue.{Queue}
 use Rattle.queue.specs.declared.Taken.{Taken}
 use Rattle.queue.specs.declared.Collected.{Collected}
@@ -84,6 +84,10 @@ module _ (s : State) (p : Priority) (places size : ℕ) where
 
 -- ---- submit
 module _ (s : State) (p : Priority) (r : Record) (x : List ℕ) (places : ℕ) (area : List ℕ) where
+  -- the record with the limit that it goes by
+  abbrev own : Record
+  own = limited (s .core .settings .retries .0) r
+
   pub takes-refused : {n : ℕ} → Found s p places (length area) n → (n ≡ 0 → ⊥)
       → Takes s p r x places area (refuse n (queueOf p (s .core)) r) area
   unfolding taking placed refuse
@@ -96,18 +100,18 @@ module _ (s : State) (p : Priority) (r : Record) (x : List ℕ) (places : ℕ) (
       }
 
   taken-within : {t : Taken} → Ready s p places (length area)
-      → t ≡ taken (s .core .ts .0) (queueOf p (s .core)) r (length x) → t .refused ≡ 0 → t .place < places
+      → t ≡ taken (s .core .ts .0) (queueOf p (s .core)) own (length x) → t .refused ≡ 0 → t .place < places
   taken-within y d z =
       let row : List ℕ = replicate (SIZE * places) 0 in
       let l : length row ≡ SIZE * places = length-replicate (SIZE * places) 0 in
       let h =
-      room (s .core .ts .0) (queueOf p (s .core)) r x row area (y .ruled)
+      room (s .core .ts .0) (queueOf p (s .core)) own x row area (y .ruled)
       (record { places = omega (arith, l, y .row); areas = y .area }) d z
       in
       omega (arith, l, h .record-fits)
 
   pub takes-taken : {n : ℕ} {t : Taken} {area′ : List ℕ} → Found s p places (length area) n → n ≡ 0
-      → t ≡ taken (s .core .ts .0) (queueOf p (s .core)) r (length x) → area′ ≡ filled t x area
+      → t ≡ taken (s .core .ts .0) (queueOf p (s .core)) own (length x) → area′ ≡ filled t x area
       → Takes s p r x places area t area′
   unfolding taking submitted
   takes-taken {t = t} f z d e =

@@ -30,7 +30,7 @@ fn deciding(s: State, p: Priority, r: Record, x: &[u8], places: usize, area: &mu
     if n != 0 {
         return queue::refuse(n, q, r);
     }
-    records::take(ts, q, r, x, area)
+    records::take(ts, q, station_queues::limited(core, r), x, area)
 }
 
 // Submits a request with its data to a queue, whose row and data area are lent.

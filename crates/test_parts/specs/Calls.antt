@@ -5,7 +5,7 @@ use mathlib.Core.List.{List}
 use lib.ListN.{length}
 use Rattle.choice.specs.Choice.{pick, less, same, said}
 use Rattle.request.specs.declared.Record.{Record}
-use Rattle.request.specs.Record.{SIZE}
+use Rattle.request.specs.Record.{SIZE, flagOctet, flagged}
 use Rattle.queue.specs.declared.Queue.{Queue}
 use Rattle.queue.specs.declared.Taken.{Taken}
 use Rattle.queue.specs.declared.Collected.{Collected}
@@ -20,8 +20,8 @@ abbrev pub queueFrom : ℕ → ℕ → ℕ → ℕ → Queue
 queueFrom places first confirmed unconfirmed =
     record { places = places; first = first; confirmed = confirmed; unconfirmed = unconfirmed }
 
-abbrev pub requestFrom : ℕ → ℕ → ℕ → ℕ → Record
-requestFrom service destination to from =
+abbrev pub requestFrom : ℕ → ℕ → ℕ → ℕ → ℕ → ℕ → ℕ → Record
+requestFrom service destination to from reference limit asks =
     record {
       service = service;
       destination = record { 0 = destination };
@@ -30,6 +30,9 @@ requestFrom service destination to from =
       length = 0;
       status = 0;
       count = 0;
+      reference = reference;
+      limit = limit;
+      asks = flagged asks;
     }
 
 -- ---- answers
@@ -59,9 +62,12 @@ flatCollected q (Refused n) =
       length = 0;
       status = 0;
       count = 0;
+      limit = 0;
+      asks = 0;
       first = q .first;
       confirmed = q .confirmed;
       unconfirmed = q .unconfirmed;
+      reference = 0;
     }
 flatCollected q (Handed place r rest) =
     record {
@@ -74,9 +80,12 @@ flatCollected q (Handed place r rest) =
       length = r .length;
       status = r .status;
       count = r .count;
+      limit = r .limit;
+      asks = flagOctet (r .asks);
       first = rest .first;
       confirmed = rest .confirmed;
       unconfirmed = rest .unconfirmed;
+      reference = r .reference;
     }
 
 -- 21 and 29 of a queue, by the lengths of its row and data area
@@ -87,7 +96,7 @@ unlent q row area = pick (said (misfit q SIZE row area)) 21 (pick (said (overful
 unfoldable pub flatSubmitted : Left Taken → Left FlatQueue
 flatSubmitted w = left (flatTaken (w .answer)) (w .row) (w .area)
 
--- 21 and 29 of the queue, then 23 to 27; refused, all is as it was
+-- 21 and 29 of the queue, then 23 to 26, 30 and 27; refused, all is as it was
 unfoldable pub submits : ℕ → Queue → Record → List ℕ → List ℕ → List ℕ → Left FlatQueue
 submits ts q r x row area =
     pick (same (unlent q (length row) (length area)) 0)

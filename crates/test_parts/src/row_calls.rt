@@ -35,9 +35,12 @@ pub struct FlatCollected {
     pub length: u8,
     pub status: u8,
     pub count: u8,
+    pub limit: u8,
+    pub asks: u8,
     pub first: u8,
     pub confirmed: u8,
     pub unconfirmed: u8,
+    pub reference: u32,
 }
 
 fn flat_queue(refused: u8, q: Queue) -> FlatQueue
@@ -90,12 +93,16 @@ pub extern "C" fn parts_submit(
     destination: u8,
     to: u8,
     from: u8,
+    reference: u32,
+    limit: u8,
+    asks: u8,
     x: &[u8],
     row: &mut [u8],
     area: &mut [u8],
 ) -> FlatQueue
     ensures { λ r. ⌜ left r (now (row .exit)) (now (area .exit))
-        ≡ submits ts (queueFrom places first confirmed unconfirmed) (requestFrom service destination to from)
+        ≡ submits ts (queueFrom places first confirmed unconfirmed)
+        (requestFrom service destination to from reference limit asks)
         (now (x .entry)) (now (row .entry)) (now (area .entry)) ⌝ }
 {
     let q = Queue {
@@ -116,6 +123,9 @@ pub extern "C" fn parts_submit(
         length: 0,
         status: 0,
         count: 0,
+        reference,
+        limit,
+        asks: request::flagged(asks),
     };
     flat_taken(rows::submit(Address(ts), q, r, x, row, area))
 }
@@ -196,9 +206,12 @@ fn unhanded(n: u8, q: Queue) -> FlatCollected
         length: 0,
         status: 0,
         count: 0,
+        limit: 0,
+        asks: 0,
         first: q.first,
         confirmed: q.confirmed,
         unconfirmed: q.unconfirmed,
+        reference: 0,
     }
 }
 
@@ -215,9 +228,12 @@ fn handed(place: u8, r: Record, rest: Queue, q: Queue) -> FlatCollected
         length: r.length,
         status: r.status,
         count: r.count,
+        limit: r.limit,
+        asks: request::flag(r.asks),
         first: rest.first,
         confirmed: rest.confirmed,
         unconfirmed: rest.unconfirmed,
+        reference: r.reference,
     }
 }
 

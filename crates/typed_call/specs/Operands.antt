@@ -9,7 +9,7 @@ use Rattle.typed.specs.Digits.{decimal, isOctets, octets}
 use Rattle.typed.specs.Lists.{list}
 use Rattle.typed.specs.Places.{LONG, SHORT, queue, room, service, access}
 use Rattle.typed_call.specs.Table as Table
-use Rattle.typed_call.specs.Pairs.{tsdiOf}
+use Rattle.typed_call.specs.Pairs.{tsdiOf, refOf, limitOf, asksOf}
 use Rattle.times.specs.declared.Settings.{Settings}
 use Rattle.request.specs.declared.Record.{Record}
 use Rattle.request.specs.Record.{WAITING}
@@ -64,7 +64,7 @@ highOf l = numberAt l Table.HIGHROW SHORT
 abbrev pub lowOf : List ℕ → ℕ
 lowOf l = numberAt l Table.LOWROW SHORT
 
--- `submit QUEUE SERVICE DA DSAP SSAP DATA`, `collect QUEUE`
+-- `submit QUEUE SERVICE DA DSAP SSAP DATA` with `ref N` and `limit N`, `collect QUEUE`
 unfoldable pub queueOf : List ℕ → Priority
 queueOf l = pick (same (queue (word l Table.QUEUE) .value) 0) High Low
 
@@ -78,6 +78,9 @@ requestOf l =
       length = 0;
       status = WAITING;
       count = 0;
+      reference = refOf l .number .value;
+      limit = octet (limitOf l .number .value);
+      asks = asksOf l;
     }
 
 abbrev pub dataOf : List ℕ → List ℕ

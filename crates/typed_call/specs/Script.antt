@@ -9,7 +9,7 @@ use Rattle.typed.specs.Digits.{isOctets}
 use Rattle.typed.specs.Places.{LONG, SHORT, queue, room, service, access, called, named, numbers}
 use Rattle.typed.specs.Places.{isMasters, isPoints}
 use Rattle.typed_call.specs.Table as Table
-use Rattle.typed_call.specs.Pairs.{startPairs}
+use Rattle.typed_call.specs.Pairs.{startPairs, submitPairs}
 use Rattle.typed_call.specs.declared.script.Call.{Call}
 use Rattle.typed_call.specs.declared.script.Call.the-variants.{Unknown, Start, Submit, Frame, Sent, Slot, Reset}
 use Rattle.typed_call.specs.declared.script.Call.the-variants.{Collect, Show}
@@ -62,7 +62,7 @@ isStart l =
     (pick (said (startPairs l))
     (pick (said (numbers l Table.TSET Table.LONGS LONG)) (isSite l) false) false) false
 
--- `submit QUEUE SERVICE DA DSAP SSAP DATA`
+-- `submit QUEUE SERVICE DA DSAP SSAP DATA`, and behind it its pairs
 unfoldable pub isPointed : List ℕ → Bool
 isPointed l =
     pick (said (access (word l Table.DSAP) .good))
@@ -75,8 +75,8 @@ isRequest l =
 
 unfoldable pub isSubmit : List ℕ → Bool
 isSubmit l =
-    pick (said (named l w-submit Table.SUBMITWORDS))
-    (pick (said (queue (word l Table.QUEUE) .good)) (isRequest l) false) false
+    pick (said (called l w-submit))
+    (pick (said (submitPairs l)) (pick (said (queue (word l Table.QUEUE) .good)) (isRequest l) false) false) false
 
 -- `frame CLOCK ROOM HIGH LOW OCTETS`
 unfoldable pub isHeard : List ℕ → Bool

@@ -173,6 +173,9 @@ pub fn request(line: &[u8]) -> Record
         length: 0,
         status: request::WAITING,
         count: 0,
+        reference: pairs::reference(line).number.value,
+        limit: octet(pairs::limit(line).number.value),
+        asks: pairs::asks(line),
     }
 }
 

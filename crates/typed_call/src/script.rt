@@ -80,7 +80,10 @@ fn is_request(s: &[u8]) -> bool
 fn is_submit(s: &[u8]) -> bool
     ensures { λ r. ⌜ r ≡ isSubmit (now (s .entry)) ⌝ }
 {
-    if !places::named(s, b"submit", table::SUBMITWORDS) {
+    if !places::called(s, b"submit") {
+        return false;
+    }
+    if !pairs::submit_pairs(s) {
         return false;
     }
     if !places::queue_at(s, table::QUEUE) {

@@ -10,6 +10,7 @@ use lib.ListN.{length}
 use Rattle.choice.proofs.Rules.{pick-true, pick-false, same-true, same-false, by-pick}
 use Rattle.laid.specs.Laid.{laid}
 use Rattle.request.specs.declared.Record.{Record}
+use Rattle.request.specs.Record.{limited}
 use Rattle.times.specs.Times.{standard}
 use Rattle.ring.specs.Ring.{member}
 use Rattle.state.specs.declared.Priority.{Priority}
@@ -118,15 +119,16 @@ lodged-keeps {A = A} core p k {a = a} {row = row} {area = area} e =
     (λ (y : Lodged A). keepsBy p k (core (y .answer)) (y .masters) (y .started) (y .marks) (y .points) (y .octets)
     (rows (y .row) (y .area))) e
 
-made-submit : (p : Priority) (k : Keeps) (service destination to from : ℕ) (x : List ℕ) {a : FlatAccepted}
-    {row area : List ℕ}
+made-submit : (p : Priority) (k : Keeps) (service destination to from reference limit asks : ℕ) (x : List ℕ)
+    {a : FlatAccepted} {row area : List ℕ}
     → lodged a (k .masters) (k .started) (k .marks) (k .points) (k .memory) row area
-    ≡ submitting (k .core) p (Calls.submit p (requestFrom service destination to from) x (lends p k))
-    → Made k (submit p (requestFrom service destination to from) x) [] (takes a)
+    ≡ submitting (k .core) p (Calls.submit p (requestFrom service destination to from reference limit asks) x (lends p k))
+    → Made k (submit p (requestFrom service destination to from reference limit asks) x) [] (takes a)
     (keeping p (a .core) (rows row area) k)
 unfolding replyOf call submitting lodging flatAccepted acceptedOf stateOf
-made-submit p k service destination to from x e =
-    let b = submit-beside (stateFor k) (rowFor p k) (rowFor (other p) k) p (requestFrom service destination to from) x in
+made-submit p k service destination to from reference limit asks x e =
+    let b = submit-beside (stateFor k) (rowFor p k) (rowFor (other p) k) p
+    (requestFrom service destination to from reference limit asks) x in
     record {
       answer =
           rw (← whole-is p k)
@@ -211,7 +213,8 @@ made-reset k e =
 
 pub made : {k m : Keeps} {c : Call} {out : List ℕ} {a : Reply} → Makes k c out a m → Made k c out a m
 unfolding replyOf call worldFor stateFor worldOf stateIn
-made {k = k} (by-submit p service destination to from x e) = made-submit p k service destination to from x e
+made {k = k} (by-submit p service destination to from reference limit asks x e) =
+    made-submit p k service destination to from reference limit asks x e
 made {k = k} (by-frame clock room first second octets out e) =
     made-turn k (frame clock (roomOf room) first second octets (length out)) out refl e
 made {k = k} (by-sent clock out e) = made-turn k (sent clock (length out)) out refl e
@@ -372,7 +375,7 @@ takes-same a b e = ap (λ (x : Reply). takenBy x a) e
 pub caller-demand-3 : {k m n o : Keeps} (s : Starts k) {before after : List Call} {r : Record} {x : List ℕ}
     {a : FlatAccepted} → Chain Makes k before m → Makes m (submit High r x) [] (takes a) n → a .refused ≡ 0
     → Chain Makes n after o
-    → Served (lineLast (run before (worldFor k) .events) nobody .waiting) (s .settings .retries)
+    → Served (lineLast (run before (worldFor k) .events) nobody .waiting) (limited (s .settings .retries) r .limit)
     (fate (a .place) (run after (worldFor n) .events) newborn)
 unfolding replyOf flatAccepted settingsIn starts-begun
 caller-demand-3 {k = k} {m = m} s {before = before} {after = after} {r = r} {x = x} {a = a} c y e d =

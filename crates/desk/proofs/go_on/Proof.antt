@@ -8,6 +8,7 @@ use mathlib.Core.Path.{sym, _∙_}
 use native.Mathlib.Omega.{arith}
 use lib.Seq.{length-take-le}
 use borrow.Author.Tests.{not-true, not-false}
+use Rattle.request.specs.Record.{SIZE}
 use Rattle.desk.proofs.Holding.{unbegun, goes-on}
 
 unknown-requires : tie.Need-unknown-requires
@@ -31,7 +32,7 @@ slice-aggregate-play c =
     let after-s : tie.After-s = search depth 0 in
     let at-start : tie.Start = search depth 0 in
     sym
-    (length-take-le (7 * at-start .args .h .high) (at-start .args .high .now)
+    (length-take-le (SIZE * at-start .args .h .high) (at-start .args .high .now)
     (omega (arith, at-start .pre .0 .high, at-start .pre .1 .high)))
 
 slice-aggregate-play-2 : tie.Need-slice-aggregate-play-2
@@ -47,7 +48,7 @@ slice-aggregate-play-3 c =
     let after-s : tie.After-s = search depth 0 in
     let at-start : tie.Start = search depth 0 in
     sym
-    (length-take-le (7 * at-start .args .h .low) (at-start .args .low .now)
+    (length-take-le (SIZE * at-start .args .h .low) (at-start .args .low .now)
     (omega (arith, at-start .pre .0 .low, at-start .pre .1 .low)))
 
 slice-aggregate-play-4 : tie.Need-slice-aggregate-play-4
@@ -77,9 +78,9 @@ returns-2 c =
     let k = after-play .play .kept .1 .1 .1 in
     goes-on (a .call) (a .line .now) (a .h) (a .high .now) (a .harea .now) (a .low .now) (a .larea .now)
     (a .text .now) w f (not-false _ (else1 .if1 .left)) (after-play .play .ensures)
-    (k .0 ∙ length-take-le (7 * a .h .high) (a .high .now) (omega (arith, w .high, f .high)))
+    (k .0 ∙ length-take-le (SIZE * a .h .high) (a .high .now) (omega (arith, w .high, f .high)))
     (k .1 .0 ∙ length-take-le (246 * a .h .high) (a .harea .now) (omega (arith, w .harea, f .high)))
-    (k .1 .1 .0 ∙ length-take-le (7 * a .h .low) (a .low .now) (omega (arith, w .low, f .low)))
+    (k .1 .1 .0 ∙ length-take-le (SIZE * a .h .low) (a .low .now) (omega (arith, w .low, f .low)))
     (k .1 .1 .1 .0 ∙ length-take-le (246 * a .h .low) (a .larea .now) (omega (arith, w .larea, f .low)))
     (k .1 .1 .1 .1 .0)
 

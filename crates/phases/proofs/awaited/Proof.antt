@@ -1,7 +1,8 @@
 -- `phases::awaited` meets its contract. Assumes nothing.
 use mathlib.Core.Path.{sym, _∙_}
 use Rattle.serve.proofs.Telling.{does-as}
-use Rattle.phases.proofs.Phases.{in-flight, awaited-bad, awaited-good}
+use Rattle.conclude.proofs.Ending.{in-flight}
+use Rattle.phases.proofs.Phases.{awaited-bad, awaited-good}
 use Rattle.phases.proofs.Read.{data-most}
 use borrow.Author.Needs.{needs}
 use Rattle.phases.proofs.awaited.Statement.{statement}

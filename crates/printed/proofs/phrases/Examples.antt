@@ -14,7 +14,7 @@ use Rattle.ring.specs.Ring.{member}
 use Rattle.typed.specs.Digits.{glyph, hexOf, shown}
 use Rattle.printed.specs.Numeral.{digit, numeralIn, numeral}
 use Rattle.printed.specs.Printed.{serviceWord, priorityWord, statusWord, pointWord, refusedLine, sending, ends}
-use Rattle.printed.specs.Printed.{indicating, doneLine, collectedLine, joined}
+use Rattle.printed.specs.Printed.{indicating, doneLine, referring, collectedLine, joined}
 
 -- "ok send 75 1007026D7616"
 pub a-request-sent : doneLine 75 (16 ∷ (7 ∷ (2 ∷ (109 ∷ (118 ∷ (22 ∷ [])))))) None [] ≡
@@ -22,13 +22,13 @@ pub a-request-sent : doneLine 75 (16 ∷ (7 ∷ (2 ∷ (109 ∷ (118 ∷ (22 ∷
     (32 ∷ (55 ∷ (53 ∷ (32 ∷ (49 ∷ (48 ∷ (48 ∷
     (55 ∷ (48 ∷ (50 ∷ (54 ∷ (68 ∷ (55 ∷ (54 ∷ (49 ∷ (54 ∷ (10 ∷ []))))))))))))))))))))))))
 unfolding pick less same said digit numeralIn numeral glyph hexOf shown dataOf bit fc pointOf member serviceWord
-    priorityWord statusWord pointWord refusedLine sending ends indicating doneLine collectedLine joined
+    priorityWord statusWord pointWord refusedLine sending ends indicating doneLine referring collectedLine joined
 a-request-sent = refl
 
 -- "ok"
 pub nothing-sent : doneLine 0 [] None [] ≡ (111 ∷ (107 ∷ (10 ∷ [])))
 unfolding pick less same said digit numeralIn numeral glyph hexOf shown dataOf bit fc pointOf member serviceWord
-    priorityWord statusWord pointWord refusedLine sending ends indicating doneLine collectedLine joined
+    priorityWord statusWord pointWord refusedLine sending ends indicating doneLine referring collectedLine joined
 nothing-sent = refl
 
 -- "ok indicate sdn high 127 5 60 - 01FF", of the data of a frame, and nothing sent
@@ -45,7 +45,7 @@ pub an-indication : doneLine 0 [] (Shown (record {
     (49 ∷ (50 ∷ (55 ∷ (32 ∷ (53 ∷ (32 ∷ (54 ∷
     (48 ∷ (32 ∷ (45 ∷ (32 ∷ (48 ∷ (49 ∷ (70 ∷ (70 ∷ (10 ∷ [])))))))))))))))))))))))))))))))))))))
 unfolding pick less same said digit numeralIn numeral glyph hexOf shown dataOf bit fc pointOf member serviceWord
-    priorityWord statusWord pointWord refusedLine sending ends indicating doneLine collectedLine joined
+    priorityWord statusWord pointWord refusedLine sending ends indicating doneLine referring collectedLine joined
 an-indication = refl
 
 -- "ok 0 srd 7 - - NA 2 -"
@@ -58,27 +58,51 @@ pub a-record : collectedLine 0 (record {
   length = 0;
   status = 16;
   count = 2;
+  reference = 0;
+  limit = 1;
+  asks = true;
 }) (1 ∷ (2 ∷ (3 ∷ []))) ≡
     (111 ∷ (107 ∷ (32 ∷ (48 ∷ (32 ∷ (115 ∷ (114 ∷
     (100 ∷ (32 ∷ (55 ∷ (32 ∷ (45 ∷ (32 ∷ (45 ∷ (32 ∷ (78 ∷ (65 ∷ (32 ∷ (50 ∷ (32 ∷ (45 ∷ (10 ∷ []))))))))))))))))))))))
 unfolding pick less same said digit numeralIn numeral glyph hexOf shown dataOf bit fc pointOf member serviceWord
-    priorityWord statusWord pointWord refusedLine sending ends indicating doneLine collectedLine joined
+    priorityWord statusWord pointWord refusedLine sending ends indicating doneLine referring collectedLine joined
 a-record = refl
+
+-- "ok 1 srd 7 - - NA 1 - ref 4711"
+pub a-record-with-reference : collectedLine 1 (record {
+  service = 12;
+  destination = record { 0 = 7 };
+  to = record { 0 = 255 };
+  from
+      = record { 0 = 255 };
+  length = 0;
+  status = 16;
+  count = 1;
+  reference = 4711;
+  limit = 0;
+  asks = false;
+}) [] ≡
+    (111 ∷ (107 ∷ (32 ∷ (49 ∷ (32 ∷ (115 ∷ (114 ∷
+    (100 ∷ (32 ∷ (55 ∷ (32 ∷ (45 ∷ (32 ∷ (45 ∷ (32 ∷ (78 ∷ (65 ∷ (32 ∷ (49 ∷ (32 ∷ (45 ∷ (32 ∷
+    (114 ∷ (101 ∷ (102 ∷ (32 ∷ (52 ∷ (55 ∷ (49 ∷ (49 ∷ (10 ∷ [])))))))))))))))))))))))))))))))
+unfolding pick less same said digit numeralIn numeral glyph hexOf shown dataOf bit fc pointOf member serviceWord
+    priorityWord statusWord pointWord refusedLine sending ends indicating doneLine referring collectedLine joined
+a-record-with-reference = refl
 
 -- "refused 25"
 pub a-refusal : refusedLine 25 ≡ (114 ∷ (101 ∷ (102 ∷ (117 ∷ (115 ∷ (101 ∷ (100 ∷ (32 ∷ (50 ∷ (53 ∷ (10 ∷ [])))))))))))
 unfolding pick less same said digit numeralIn numeral glyph hexOf shown dataOf bit fc pointOf member serviceWord
-    priorityWord statusWord pointWord refusedLine sending ends indicating doneLine collectedLine joined
+    priorityWord statusWord pointWord refusedLine sending ends indicating doneLine referring collectedLine joined
 a-refusal = refl
 
 -- "2,5", of seven addresses
 pub the-masters : joined true 7 0 (0 ∷ (0 ∷ (1 ∷ (0 ∷ (0 ∷ (1 ∷ (0 ∷ []))))))) ≡ (50 ∷ (44 ∷ (53 ∷ [])))
 unfolding pick less same said digit numeralIn numeral glyph hexOf shown dataOf bit fc pointOf member serviceWord
-    priorityWord statusWord pointWord refusedLine sending ends indicating doneLine collectedLine joined
+    priorityWord statusWord pointWord refusedLine sending ends indicating doneLine referring collectedLine joined
 the-masters = refl
 
 -- the greatest number
 pub the-greatest : numeral 4294967295 ≡ (52 ∷ (50 ∷ (57 ∷ (52 ∷ (57 ∷ (54 ∷ (55 ∷ (50 ∷ (57 ∷ (53 ∷ []))))))))))
 unfolding pick less same said digit numeralIn numeral glyph hexOf shown dataOf bit fc pointOf member serviceWord
-    priorityWord statusWord pointWord refusedLine sending ends indicating doneLine collectedLine joined
+    priorityWord statusWord pointWord refusedLine sending ends indicating doneLine referring collectedLine joined
 the-greatest = refl

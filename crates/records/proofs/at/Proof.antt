@@ -74,7 +74,7 @@ abbrev arm : Body
 arm = seq (call #records·none [] (place 0 [])) return
 
 abbrev last : Body
-last = seq (assign (place 3 []) (op2 (mul unsigned) (copy (place 2 [])) (int w64 7)))
+last = seq (assign (place 3 []) (op2 (mul unsigned) (copy (place 2 [])) (int w64 16)))
     (seq (assign (place 5 []) (op2 offset (copy (place 1 (field 0 ∷ []))) (copy (place 3 []))))
     (seq (assign (place 6 []) (rvOpd (copy (place 5 (deref R′.mir ∷ [])))))
     (seq (assign (place 0 []) (rvOpd (copy (place 6 [])))) return)))
@@ -165,7 +165,7 @@ module _ {M : Type 1} (𝓤 : URA M) (H : Heap 𝓤) (A : Atoms 𝓤) (W : Given
           assigns !
           (bin ! (load ! (from ! (fld ! refl (stop !))) (look-in ! 13 (sub ! 0 refl (whole !))))
           (load ! (from ! (stop !)) (look ! 9 refl)) tt) (from ! (stop !)) (init ! 5 refl (tt, tt)) $
-          rewrite ! 5 (λ (p : ℕ). ‵ (fat fullShare tyPtr l₅ 0 (vptr b p))) (sym (place-is 7 o i)) refl $
+          rewrite ! 5 (λ (p : ℕ). ‵ (fat fullShare tyPtr l₅ 0 (vptr b p))) (sym (place-is 16 o i)) refl $
           -- the row is looked into, the record read, and the row shut
           move ! (1 ∷ 2 ∷ []) $ looks-slice ! tt Row (Is Row) (shows 𝓤 H A Row) row-vals row-tells (row-copy 𝓤 H A W)
           ys b o (λ q′. elem-out ! Row (Is Row) (shows 𝓤 H A Row) row-vals row-tells q′ ys i blank b o within (λ g.

@@ -342,7 +342,7 @@ module _ {M : Type 1} (𝓤 : URA M) (H : Heap 𝓤) (A : Atoms 𝓤) (W : Given
         assigns !
         (bin ! (load ! (from ! (fld ! refl (stop !))) (look-in ! 30 (sub ! 0 refl (whole !))))
         (load ! (from ! (stop !)) (look ! 20 refl)) tt) (from ! (stop !)) (init ! 18 refl (tt, tt)) $
-        rewrite ! 18 (λ (p : ℕ). ‵ (fat fullShare tyPtr l₁₁ 0 (vptr b p))) (sym (place-is 7 o c)) refl $
+        rewrite ! 18 (λ (p : ℕ). ‵ (fat fullShare tyPtr l₁₁ 0 (vptr b p))) (sym (place-is 16 o c)) refl $
         -- the row is opened and the record read
         opens-slice ! tt Row ys b o $ elem-out ! Row (Is Row) (shows 𝓤 H A Row) row-vals row-tells fullShare ys c
         blank b o within (λ g.
@@ -391,7 +391,7 @@ module _ {M : Type 1} (𝓤 : URA M) (H : Heap 𝓤) (A : Atoms 𝓤) (W : Given
         assigns !
         (bin ! (load ! (from ! (fld ! refl (stop !))) (look-in ! 31 (sub ! 0 refl (whole !))))
         (load ! (from ! (stop !)) (look ! 11 refl)) tt) (from ! (stop !)) (init ! 9 refl (tt, tt)) $
-        rewrite ! 9 (λ (p : ℕ). ‵ (fat fullShare tyPtr l₁₆ 0 (vptr b p))) (sym (place-is 7 o c)) refl $
+        rewrite ! 9 (λ (p : ℕ). ‵ (fat fullShare tyPtr l₁₆ 0 (vptr b p))) (sym (place-is 16 o c)) refl $
         assigns ! (of-opd ! (load ! (from ! (stop !)) (look ! 23 refl))) (from ! (hop ! (look ! 9 refl) (stop !)))
         (store-raw ! 0 refl (row-typed 𝓤 H A W new _ (new-is r′ v′ is′ (e′ .0)))) $
         move ! (1 ∷ []) $ drop ! $ owned ! Row (Is Row) (row-makes 𝓤 H A) new _ (new-is r′ v′ is′ (e′ .0)) $ move !

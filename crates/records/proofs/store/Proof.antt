@@ -71,7 +71,7 @@ slice = sliceTy (tyRef (named 0) mut (pointee (Row .written)))
 
 abbrev arm : Body
 arm = seq (assign (place 4 []) (op1 (cast unsigned unsigned w64) (copy (place 1 (field 1 ∷ [])))))
-    (seq (assign (place 5 []) (op2 (mul unsigned) (copy (place 4 [])) (int w64 7)))
+    (seq (assign (place 5 []) (op2 (mul unsigned) (copy (place 4 [])) (int w64 16)))
     (seq (assign (place 6 []) (op2 offset (copy (place 2 (field 0 ∷ []))) (copy (place 5 []))))
     (assign (place 6 (deref R′.mir ∷ [])) (rvOpd (copy (place 1 (field 2 ∷ [])))))))
 
@@ -188,7 +188,7 @@ module _ {M : Type 1} (𝓤 : URA M) (H : Heap 𝓤) (A : Atoms 𝓤) (W : Given
           assigns !
           (bin ! (load ! (from ! (fld ! refl (stop !))) (look-in ! 11 (sub ! 0 refl (whole !))))
           (load ! (from ! (stop !)) (look ! 5 refl)) tt) (from ! (stop !)) (init ! 3 refl (tt, tt)) $
-          rewrite ! 3 (λ (p : ℕ). ‵ (fat fullShare tyPtr l₆ 0 (vptr b p))) (sym (place-is 7 o (t .place))) refl $
+          rewrite ! 3 (λ (p : ℕ). ‵ (fat fullShare tyPtr l₆ 0 (vptr b p))) (sym (place-is 16 o (t .place))) refl $
           opens-slice ! tt Row ys b o $ elem-out ! Row (Is Row) (shows 𝓤 H A Row) row-vals row-tells fullShare ys
           (t .place) blank b o (within (eqb→eq _ _ z)) (λ _.
           -- [row[place]; what it owns; the others; the open borrow; obs; auth; _6; …; _0; …]

@@ -12,6 +12,7 @@ use Rattle.request.proofs.unfit.Tie as tie
 returns : tie.Need-returns
 returns c =
     let after-unserved : tie.After-unserved = search depth 0 in
+    let then6 : tie.Then6 = search depth 0 in
     let then5 : tie.Then5 = search depth 0 in
     let then4 : tie.Then4 = search depth 0 in
     let after-usual2 : tie.After-usual2 = search depth 0 in
@@ -24,7 +25,7 @@ returns c =
     sym
     (fit (a .ts .0) (a .r) (a .n) (then1 .if1 .taken) (then2 .if2 .taken)
     (sym (after-usual .usual .ensures) ∙ then3 .if3 .taken) (sym (after-usual2 .usual2 .ensures) ∙ then4 .if4 .taken)
-    (then5 .if5 .taken) (sym (after-unserved .unserved .ensures) ∙ not-true _ (c .if6 .taken)))
+    (then5 .if5 .taken) (then6 .if6 .taken) (sym (after-unserved .unserved .ensures) ∙ not-true _ (c .if7 .taken)))
 
 returns-2 : tie.Need-returns-2
 unfolding unfit
@@ -46,6 +47,10 @@ returns-6 : tie.Need-returns-6
 unfolding unfit
 returns-6 c = search (picks, asked) depth 20
 
+returns-7 : tie.Need-returns-7
+unfolding unfit
+returns-7 c = search (picks, asked) depth 20
+
 pub unfit-spec : {M : Type 1} → statement M
 unfit-spec =
     tie.close
@@ -62,4 +67,6 @@ unfit-spec =
     returns-4
     (λ c κs. search needs)
     returns-5
-    returns-6)
+    (λ c κs. search needs)
+    returns-6
+    returns-7)

@@ -9,7 +9,7 @@ use Rattle.typed.specs.Lists.{entry, listed, closing, listOn, list}
 use Rattle.typed.specs.Places.{either, queue, room, unserved, service, access, called, named, numbers, pair}
 use Rattle.typed.specs.Places.{isMasters, isPoints}
 use Rattle.times.specs.Times.{standard}
-use Rattle.typed_call.specs.Pairs.{tsdiOf, startPairs}
+use Rattle.typed_call.specs.Pairs.{tsdiOf, startPairs, refOf, limitOf, submitPairs}
 use Rattle.typed_call.specs.declared.script.Call.the-variants.{Unknown, Start, Submit, Frame, Slot, Collect}
 use Rattle.typed_call.specs.Script.{isSite, isStart, isPointed, isRequest, isSubmit, isHeard, isFrame}
 use Rattle.typed_call.specs.Script.{isClocked, isCollect, plainOf, clockedOf, callOf}
@@ -49,7 +49,7 @@ pub lines : (callOf (115 ∷ (116 ∷ (97 ∷ (114 ∷ (116 ∷ (32 ∷ (50 ∷ 
 unfolding pick less same said spaces letters begins ends ahead beginOf begun wordsBehind word equal digit
     allDigits valueOn noNumber number readOn decimal nibble allHex dash isOctets entry listed closing listOn list
     either queue room unserved service access called named numbers pair isMasters isPoints standard tsdiOf startPairs
-    isSite isStart isPointed isRequest isSubmit isHeard isFrame isClocked isCollect plainOf clockedOf callOf
+    refOf limitOf submitPairs isSite isStart isPointed isRequest isSubmit isHeard isFrame isClocked isCollect plainOf clockedOf callOf
 lines = (refl, refl, refl, refl, refl, refl, refl, refl, refl, refl)
 
 -- lines with the pair of order 1, in turn:
@@ -66,5 +66,26 @@ pub pairs : (callOf (115 ∷ (116 ∷ (97 ∷ (114 ∷ (116 ∷ (32 ∷ (50 ∷ 
 unfolding pick less same said spaces letters begins ends ahead beginOf begun wordsBehind word equal digit
     allDigits valueOn noNumber number readOn decimal nibble allHex dash isOctets entry listed closing listOn list
     either queue room unserved service access called named numbers pair isMasters isPoints standard tsdiOf startPairs
-    isSite isStart isPointed isRequest isSubmit isHeard isFrame isClocked isCollect plainOf clockedOf callOf
+    refOf limitOf submitPairs isSite isStart isPointed isRequest isSubmit isHeard isFrame isClocked isCollect plainOf clockedOf callOf
 pairs = (refl, refl, refl, refl, refl)
+
+-- lines with the pairs of order 6, in turn:
+-- "submit high srd 7 - - - ref 4711"
+-- "submit low srd 7 - - - limit 0"
+-- "submit high srd 7 - - - ref 4294967295 limit 255"
+-- "submit high srd 7 - - - limit 0 ref 1"
+-- "submit high srd 7 - - - ref 1 ref 1"
+-- "submit high srd 7 - - - limit 256"
+-- "submit high srd 7 - - - ref"
+pub submits : (callOf (115 ∷ (117 ∷ (98 ∷ (109 ∷ (105 ∷ (116 ∷ (32 ∷ (104 ∷ (105 ∷ (103 ∷ (104 ∷ (32 ∷ (115 ∷ (114 ∷ (100 ∷ (32 ∷ (55 ∷ (32 ∷ (45 ∷ (32 ∷ (45 ∷ (32 ∷ (45 ∷ (32 ∷ (114 ∷ (101 ∷ (102 ∷ (32 ∷ (52 ∷ (55 ∷ (49 ∷ (49 ∷ [])))))))))))))))))))))))))))))))) ≡ Submit)
+    × (callOf (115 ∷ (117 ∷ (98 ∷ (109 ∷ (105 ∷ (116 ∷ (32 ∷ (108 ∷ (111 ∷ (119 ∷ (32 ∷ (115 ∷ (114 ∷ (100 ∷ (32 ∷ (55 ∷ (32 ∷ (45 ∷ (32 ∷ (45 ∷ (32 ∷ (45 ∷ (32 ∷ (108 ∷ (105 ∷ (109 ∷ (105 ∷ (116 ∷ (32 ∷ (48 ∷ [])))))))))))))))))))))))))))))) ≡ Submit)
+    × (callOf (115 ∷ (117 ∷ (98 ∷ (109 ∷ (105 ∷ (116 ∷ (32 ∷ (104 ∷ (105 ∷ (103 ∷ (104 ∷ (32 ∷ (115 ∷ (114 ∷ (100 ∷ (32 ∷ (55 ∷ (32 ∷ (45 ∷ (32 ∷ (45 ∷ (32 ∷ (45 ∷ (32 ∷ (114 ∷ (101 ∷ (102 ∷ (32 ∷ (52 ∷ (50 ∷ (57 ∷ (52 ∷ (57 ∷ (54 ∷ (55 ∷ (50 ∷ (57 ∷ (53 ∷ (32 ∷ (108 ∷ (105 ∷ (109 ∷ (105 ∷ (116 ∷ (32 ∷ (50 ∷ (53 ∷ (53 ∷ [])))))))))))))))))))))))))))))))))))))))))))))))) ≡ Submit)
+    × (callOf (115 ∷ (117 ∷ (98 ∷ (109 ∷ (105 ∷ (116 ∷ (32 ∷ (104 ∷ (105 ∷ (103 ∷ (104 ∷ (32 ∷ (115 ∷ (114 ∷ (100 ∷ (32 ∷ (55 ∷ (32 ∷ (45 ∷ (32 ∷ (45 ∷ (32 ∷ (45 ∷ (32 ∷ (108 ∷ (105 ∷ (109 ∷ (105 ∷ (116 ∷ (32 ∷ (48 ∷ (32 ∷ (114 ∷ (101 ∷ (102 ∷ (32 ∷ (49 ∷ []))))))))))))))))))))))))))))))))))))) ≡ Unknown)
+    × (callOf (115 ∷ (117 ∷ (98 ∷ (109 ∷ (105 ∷ (116 ∷ (32 ∷ (104 ∷ (105 ∷ (103 ∷ (104 ∷ (32 ∷ (115 ∷ (114 ∷ (100 ∷ (32 ∷ (55 ∷ (32 ∷ (45 ∷ (32 ∷ (45 ∷ (32 ∷ (45 ∷ (32 ∷ (114 ∷ (101 ∷ (102 ∷ (32 ∷ (49 ∷ (32 ∷ (114 ∷ (101 ∷ (102 ∷ (32 ∷ (49 ∷ []))))))))))))))))))))))))))))))))))) ≡ Unknown)
+    × (callOf (115 ∷ (117 ∷ (98 ∷ (109 ∷ (105 ∷ (116 ∷ (32 ∷ (104 ∷ (105 ∷ (103 ∷ (104 ∷ (32 ∷ (115 ∷ (114 ∷ (100 ∷ (32 ∷ (55 ∷ (32 ∷ (45 ∷ (32 ∷ (45 ∷ (32 ∷ (45 ∷ (32 ∷ (108 ∷ (105 ∷ (109 ∷ (105 ∷ (116 ∷ (32 ∷ (50 ∷ (53 ∷ (54 ∷ []))))))))))))))))))))))))))))))))) ≡ Unknown)
+    × (callOf (115 ∷ (117 ∷ (98 ∷ (109 ∷ (105 ∷ (116 ∷ (32 ∷ (104 ∷ (105 ∷ (103 ∷ (104 ∷ (32 ∷ (115 ∷ (114 ∷ (100 ∷ (32 ∷ (55 ∷ (32 ∷ (45 ∷ (32 ∷ (45 ∷ (32 ∷ (45 ∷ (32 ∷ (114 ∷ (101 ∷ (102 ∷ []))))))))))))))))))))))))))) ≡ Unknown)
+unfolding pick less same said spaces letters begins ends ahead beginOf begun wordsBehind word equal digit
+    allDigits valueOn noNumber number readOn decimal nibble allHex dash isOctets entry listed closing listOn list
+    either queue room unserved service access called named numbers pair isMasters isPoints standard tsdiOf startPairs
+    refOf limitOf submitPairs isSite isStart isPointed isRequest isSubmit isHeard isFrame isClocked isCollect plainOf clockedOf callOf
+submits = (refl, refl, refl, refl, refl, refl, refl)

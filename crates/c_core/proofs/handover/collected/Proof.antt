@@ -9,4 +9,4 @@ unfolding flatCollected
 returns c = cc
 
 pub collected-spec : {M : Type 1} → statement M
-collected-spec = tie.close (tie.spec (λ c κs. search needs) returns)
+collected-spec = tie.close (tie.spec (λ c κs. search needs) (λ c κs. search needs) returns)

@@ -6,7 +6,7 @@ use Rattle.phases.proofs.judge.judge.Tie as tie
 
 returns : tie.Need-returns
 unfolding judged
-returns c = cc
+returns c = rw (c .enum-told .given .1)
 
 returns-2 : tie.Need-returns-2
 unfolding judged

@@ -19,12 +19,12 @@ returns c =
     let at2 : tie.After-lay = search depth 0 in
     let start : tie.Start = search depth 0 in
     let a = start .args in
-    let h1 : a .at + (2 + 544) ≤ length (a .out .now) = omega (arith, start .pre) in
-    let h2 = lays-room 544 h1 (at2 .lay .ensures) in
-    let h3 = lays-room 540 h2 (at3 .number .ensures) in
-    let h4 = lays-room 533 h3 (at4 .service .ensures) in
-    let h5 = lays-room 529 h4 (at5 .number2 .ensures) in
-    let h6 = lays-room 525 h5 (at6 .point .ensures) in
+    let h1 : a .at + (2 + 559) ≤ length (a .out .now) = omega (arith, start .pre) in
+    let h2 = lays-room 559 h1 (at2 .lay .ensures) in
+    let h3 = lays-room 555 h2 (at3 .number .ensures) in
+    let h4 = lays-room 548 h3 (at4 .service .ensures) in
+    let h5 = lays-room 544 h4 (at5 .number2 .ensures) in
+    let h6 = lays-room 540 h5 (at6 .point .ensures) in
     lays-within 600 (omega arith)
     (lays-then h1 (at2 .lay .ensures)
     (lays-then h2 (at3 .number .ensures)

@@ -27,10 +27,11 @@ returns-2 : tie.Need-returns-2
 unfolding submits flatSubmitted
 returns-2 c =
     let after-submit : tie.After-submit = search depth 0 in
+    let after-flagged : tie.After-flagged = search depth 0 in
     let after-unlent : tie.After-unlent = search depth 0 in
     let else1 : tie.Else1 = search depth 0 in
     if-same _ (sym (after-unlent .unlent .ensures) ∙ else1 .if1 .left)
-    (rw (← (after-submit .submit .ensures), (c .flat-taken .ensures)) refl)
+    (rw (← (after-flagged .flagged .ensures), ← (after-submit .submit .ensures), (c .flat-taken .ensures)) refl)
 
 pub parts-submit-spec : {M : Type 1} → statement M
 parts-submit-spec =
@@ -39,6 +40,7 @@ parts-submit-spec =
     (λ c κs. search needs)
     (λ c κs. search needs)
     returns
+    (λ c κs. search needs)
     submit-requires
     (λ c κs. search needs)
     (λ c. search needs)

@@ -17,6 +17,10 @@ returns-3 : tie.Need-returns-3
 unfolding isSubmit
 returns-3 c = search asked depth 20
 
+returns-4 : tie.Need-returns-4
+unfolding isSubmit
+returns-4 c = search asked depth 20
+
 pub is-submit-spec : {M : Type 1} → statement M
 is-submit-spec =
     tie.close
@@ -27,4 +31,6 @@ is-submit-spec =
     (λ c κs. tt)
     returns-2
     (λ c κs. tt)
-    returns-3)
+    returns-3
+    (λ c κs. tt)
+    returns-4)
