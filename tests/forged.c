@@ -1,8 +1,9 @@
 /* The harness of forged stations: reads a script on standard input, a call a line with all that it is given, asks the
  * library and prints whether it is refused, as `reference refusal` does. tests/reference/src/cases.rs has the words.
  * Every buffer that it lends ends at a fence of its own. A refused call must answer the core that it was given and
- * leave all that is lent as it was; an accepted one must leave what it is lent only to read, and what else it does is
- * compared elsewhere. */
+ * leave all that is lent as it was; an accepted one must leave what it is lent only to read, a submit must write the
+ * reference and the limit of its request and a collect hand back the record that lies there. What else an accepted call
+ * does is compared elsewhere. */
 #define _GNU_SOURCE
 #include "../include/cihlomet.h"
 #include "lent.h"
@@ -13,6 +14,9 @@
 #include <sys/mman.h>
 
 _Static_assert(sizeof(struct cihlomet_core) == 60, "no padding: a core is compared by its octets");
+_Static_assert(offsetof(struct cihlomet_collected, reference) == 12, "behind eleven octets");
+_Static_assert(offsetof(struct cihlomet_collected, core) == 16, "behind the reference");
+_Static_assert(sizeof(struct cihlomet_collected) == 76, "a core behind the reference");
 
 /* A buffer as lent, and a copy of what it held before the call. */
 struct part {
@@ -288,20 +292,51 @@ static void ask_reset(char **word)
     say(answer.refused, &answer.core);
 }
 
+/* ---- A record: where these lie in its octets, tests/parts.h says. */
+enum { LENGTH = 4, REFERENCE = 7, LIMIT = 11, ASKS = 12 };
+
+static const uint8_t *record_at(size_t row, uint8_t place)
+{
+    if (((size_t)place + 1) * CIHLOMET_RECORD > parts[row].count)
+        stop("a place out of the row");
+    return parts[row].octets + (size_t)place * CIHLOMET_RECORD;
+}
+
+static uint32_t reference_of(const uint8_t *record)
+{
+    const uint8_t *at = record + REFERENCE;
+    return (uint32_t)at[0] | (uint32_t)at[1] << 8 | (uint32_t)at[2] << 16 | (uint32_t)at[3] << 24;
+}
+
+/* What an accepted submit wrote: the reference as given, and the station's limit if the request asks, else its own. */
+static void written(const uint8_t *record, uint32_t reference, uint8_t limit, uint8_t asks)
+{
+    if (reference_of(record) != reference)
+        stop("the record has another reference than the request");
+    if (record[LIMIT] != (asks != 0 ? core.settings.retries : limit))
+        stop("the record has another limit than it was to go by");
+    if (record[ASKS] != (asks != 0))
+        stop("the record does not say whether the request asked");
+}
+
 static void ask_submit(char **word)
 {
     bool high = strcmp(word[0], "submit_high") == 0;
     size_t row = high ? HIGH : LOW;
+    uint32_t reference = (uint32_t)number(word[12], UINT32_MAX);
+    uint8_t limit = octet(word[13]), asks = octet(word[14]);
     read_station(word);
     lend_row(row, word + 6);
-    lend_count(INPUT, word[12]);
+    lend_count(INPUT, word[15]);
     CONSTANT(MASTERS, MARKS, MEMORY, INPUT);
     keep();
     struct cihlomet_accepted answer =
         (high ? cihlomet_submit_high : cihlomet_submit_low)(core, ARRAYS, octet(word[8]), octet(word[9]),
-                                                            octet(word[10]), octet(word[11]), LENT(INPUT), LENT(row),
-                                                            LENT(row + 1));
-    if (answer.refused != 0 && answer.place != 0)
+                                                            octet(word[10]), octet(word[11]), reference, limit, asks,
+                                                            LENT(INPUT), LENT(row), LENT(row + 1));
+    if (answer.refused == 0)
+        written(record_at(row, answer.place), reference, limit, asks);
+    else if (answer.place != 0)
         stop("a refused submit answered a place");
     say(answer.refused, &answer.core);
 }
@@ -310,8 +345,24 @@ static void ask_submit(char **word)
 static void no_record(const struct cihlomet_collected *answer)
 {
     if ((answer->place | answer->service | answer->destination | answer->length | answer->count) != 0 ||
-        answer->to != CIHLOMET_NO_POINT || answer->from != CIHLOMET_NO_POINT || answer->status != CIHLOMET_WAITING)
+        answer->to != CIHLOMET_NO_POINT || answer->from != CIHLOMET_NO_POINT ||
+        answer->status != CIHLOMET_WAITING || (answer->limit | answer->asks) != 0 || answer->reference != 0)
         stop("a refused collect answered a record");
+}
+
+/* What an accepted collect answers: the record as it lies, but for whether it asked, which is 0 or 1. A length that no
+ * place has room for is not looked at. */
+static void handed_back(const struct cihlomet_collected *answer, const uint8_t *record)
+{
+    const uint8_t length = record[LENGTH] > CIHLOMET_DATA ? record[LENGTH] : answer->length;
+    const uint8_t fields[] = {answer->service, answer->destination, answer->to,   answer->from,
+                              length,          answer->status,      answer->count};
+    if (memcmp(fields, record, sizeof fields) != 0)
+        stop("collect answered another record than lies at the place");
+    if (answer->reference != reference_of(record) || answer->limit != record[LIMIT])
+        stop("collect answered another reference or limit than lies at the place");
+    if (answer->asks != (record[ASKS] != 0))
+        stop("collect does not say whether the request asked");
 }
 
 static void ask_collect(char **word)
@@ -326,6 +377,8 @@ static void ask_collect(char **word)
         (high ? cihlomet_collect_high : cihlomet_collect_low)(core, ARRAYS, LENT(row), LENT(row + 1));
     if (answer.refused != 0)
         no_record(&answer);
+    else
+        handed_back(&answer, record_at(row, answer.place));
     say(answer.refused, &answer.core);
 }
 
@@ -361,7 +414,7 @@ int main(void)
 {
     static const struct call calls[] = {
         {"hear", 16, ask_hear},           {"sent", 12, ask_sent},          {"slot", 12, ask_slot},
-        {"reset", 10, ask_reset},         {"submit_high", 13, ask_submit}, {"submit_low", 13, ask_submit},
+        {"reset", 10, ask_reset},         {"submit_high", 16, ask_submit}, {"submit_low", 16, ask_submit},
         {"collect_high", 8, ask_collect}, {"collect_low", 8, ask_collect}, {"start", 7, ask_start},
     };
     for (size_t i = 0; i < PARTS; i++) {

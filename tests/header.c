@@ -28,7 +28,8 @@ AT(renewed, refused, 0); AT(renewed, core, 4); SIZE(renewed, 64);
 AT(accepted, refused, 0); AT(accepted, place, 1); AT(accepted, core, 4); SIZE(accepted, 64);
 AT(collected, refused, 0); AT(collected, place, 1); AT(collected, service, 2); AT(collected, destination, 3);
 AT(collected, to, 4); AT(collected, from, 5); AT(collected, length, 6); AT(collected, status, 7);
-AT(collected, count, 8); AT(collected, core, 12); SIZE(collected, 72);
+AT(collected, count, 8); AT(collected, limit, 9); AT(collected, asks, 10); AT(collected, reference, 12);
+AT(collected, core, 16); SIZE(collected, 76);
 AT(indication, indicated, 0); AT(indication, control, 1); AT(indication, destination, 2); AT(indication, to, 3);
 AT(indication, source, 4); AT(indication, from, 5); AT(indication, start, 8); AT(indication, count, 16);
 SIZE(indication, 24);
@@ -138,13 +139,34 @@ static struct cihlomet_renewed reset(void)
     return r;
 }
 
-static struct cihlomet_accepted submit(bool upper, uint8_t service, uint8_t destination, uint8_t to, uint8_t from)
+/* What a request has of its own: a reference, a limit, and whether it asks for the station's. */
+struct own {
+    uint32_t reference;
+    uint8_t limit, asks;
+};
+
+static struct cihlomet_accepted submit_own(bool upper, uint8_t service, uint8_t destination, uint8_t to, uint8_t from,
+                                           struct own own)
 {
     struct cihlomet_accepted a =
-        upper ? cihlomet_submit_high(STATION, service, destination, to, from, LENT(data), LENT(high), LENT(high_data))
-              : cihlomet_submit_low(STATION, service, destination, to, from, LENT(data), LENT(low), LENT(low_data));
+        upper ? cihlomet_submit_high(STATION, service, destination, to, from, own.reference, own.limit, own.asks,
+                                     LENT(data), LENT(high), LENT(high_data))
+              : cihlomet_submit_low(STATION, service, destination, to, from, own.reference, own.limit, own.asks,
+                                    LENT(data), LENT(low), LENT(low_data));
     s->core = a.core;
     return a;
+}
+
+/* A request without a reference that asks for the station's limit; the one given beside would be refused. */
+static struct cihlomet_accepted submit(bool upper, uint8_t service, uint8_t destination, uint8_t to, uint8_t from)
+{
+    return submit_own(upper, service, destination, to, from, (struct own){.reference = 0, .limit = 255, .asks = 1});
+}
+
+/* An SRD to the lift. */
+static struct cihlomet_accepted srd(bool upper, uint32_t reference, uint8_t limit, uint8_t asks)
+{
+    return submit_own(upper, CIHLOMET_SRD, LIFT, POINT, OWN_POINT, (struct own){reference, limit, asks});
 }
 
 static struct cihlomet_collected collect(bool upper)
@@ -569,6 +591,7 @@ static void statuses(void)
     c = collect(true);
     CLAIM(c.refused == 28 && c.status == CIHLOMET_WAITING && (c.place | c.service | c.destination) == 0);
     CLAIM(c.to == CIHLOMET_NO_POINT && c.from == CIHLOMET_NO_POINT && (c.length | c.count) == 0);
+    CLAIM((c.limit | c.asks) == 0 && c.reference == 0);
 }
 
 /* The second request of a queue, sent thrice and answered with four octets: every field has a value of its own. */
@@ -576,7 +599,7 @@ static void collected(void)
 {
     begin();
     CLAIM(submit(true, CIHLOMET_SDN, LIFT, POINT, OWN_POINT).place == 0);
-    CLAIM(submit(true, CIHLOMET_SRD, LIFT, POINT, OWN_POINT).place == 1);
+    CLAIM(srd(true, 0x81020304, 5, 0).place == 1);
     token(CLOCK - 1000, PS);
     sent(CLOCK - 900);
     collect(true);
@@ -587,6 +610,7 @@ static void collected(void)
     struct cihlomet_collected c = collect(true);
     CLAIM(c.refused == 0 && c.place == 1 && c.service == 12 && c.destination == LIFT && c.to == POINT);
     CLAIM(c.from == OWN_POINT && c.length == 4 && c.status == CIHLOMET_DL && c.count == 3);
+    CLAIM(c.reference == 0x81020304 && c.limit == 5 && c.asks == 0);
     CLAIM(memcmp(high_data.at + CIHLOMET_DATA, "\1\2\3\4\xAA", 5) == 0 && high_data.at[CIHLOMET_DATA - 1] == BEFORE);
     CLAIM(s->core.high_first == 2 && s->core.high_confirmed == 0);
     s->core.high_confirmed = 1;
@@ -615,6 +639,172 @@ static void submit_refusals(void)
     CLAIM(submit(false, srd, LIFT, none, none).refused == 0);
     s->core.bit = 2;
     CLAIM(submit(false, srd, LIFT, none, none).refused == 29 && collect(false).refused == 29);
+}
+
+/* ---- References and limits of requests. */
+
+/* Where these lie in the octets of a record. */
+enum { REFERENCE = 7, LIMIT = 11, ASKS = 12 };
+
+/* What submit writes at its place, and a confirmation: the whole record, and no octet of another. */
+static void record_octets(void)
+{
+    static const uint8_t own[] = {12, LIFT, POINT, OWN_POINT, 5, CIHLOMET_WAITING, 0, 4, 3, 2, 0x81, 9, 0};
+    static const uint8_t asked[] = {12, LIFT, POINT, OWN_POINT, 5, CIHLOMET_WAITING, 0, 255, 255, 255, 255, 2, 1};
+    _Static_assert(CIHLOMET_RECORD == 13 && sizeof own == 13 && sizeof asked == 13, "thirteen octets");
+    begin();
+    lend_octets(&data, "\1\2\3\4\5", 5);
+    CLAIM(srd(true, 0x81020304, 9, 0).place == 0 && memcmp(high.at, own, 13) == 0 && high.at[13] == BEFORE);
+    CLAIM(srd(true, UINT32_MAX, 200, 128).place == 1 && memcmp(high.at + 13, asked, 13) == 0);
+    CLAIM(memcmp(high.at, own, 13) == 0 && high.at[26] == BEFORE && low.at[0] == BEFORE);
+    CLAIM(reset().refused == 0 && high.at[4] == 0 && high.at[5] == CIHLOMET_DS && high.at[6] == 0);
+    CLAIM(memcmp(high.at, own, 4) == 0 && memcmp(high.at + REFERENCE, own + REFERENCE, 6) == 0);
+    CLAIM(memcmp(high.at + 13 + REFERENCE, asked + REFERENCE, 6) == 0 && high.at[26] == BEFORE);
+}
+
+/* A request that is lost, in a hold with time: what collect answers once it is given up. */
+static struct cihlomet_collected lost(bool upper, uint8_t limit, uint8_t asks)
+{
+    begin();
+    token(CLOCK - 1000, PS);
+    srd(upper, 77, limit, asks);
+    token(CLOCK, PS);
+    for (int i = 0; i < 20 && s->core.phase == CIHLOMET_REPLY_AWAITED; i++)
+        slot(CLOCK);
+    struct cihlomet_collected c = collect(upper);
+    CLAIM(c.refused == 0 && c.status == CIHLOMET_NA && c.reference == 77 && c.count == c.limit + 1);
+    return c;
+}
+
+/* A limit of its own is what a request goes by, below, at and above the station's; who asks for the station's has that,
+ * whatever limit is given beside and by whichever number it asks. */
+static void limits(void)
+{
+    static const uint8_t beside[] = {0, 1, 3, 15, 16, 255}, yes[] = {1, 2, 128, 255};
+    for (size_t i = 0; i < 2; i++) {
+        for (uint8_t limit = 0; limit <= 15; limit++) {
+            struct cihlomet_collected c = lost(i == 0, limit, 0);
+            CLAIM(c.limit == limit && c.asks == 0);
+        }
+        for (size_t j = 0; j < sizeof beside * sizeof yes; j++) {
+            struct cihlomet_collected c = lost(i == 0, beside[j / sizeof yes], yes[j % sizeof yes]);
+            CLAIM(c.limit == settings.retries && c.asks == 1);
+        }
+    }
+}
+
+/* A request that is never sent again is NA after one sending, beside one that the station sends again twice. */
+static void beside_each_other(void)
+{
+    begin();
+    token(CLOCK - 1000, PS);
+    CLAIM(srd(true, 10, 0, 0).place == 0 && srd(true, 11, 0, 1).place == 1);
+    CLAIM(token(CLOCK, PS).length == 11 && s->core.sendings == 1 && s->core.high_confirmed == 0);
+    CLAIM(slot(CLOCK).length == 11 && s->core.sendings == 1 && s->core.high_confirmed == 1);
+    CLAIM(slot(CLOCK).length == 11 && s->core.sendings == 2 && slot(CLOCK).length == 11 && s->core.sendings == 3);
+    CLAIM(slot(CLOCK).length == 3 && s->core.high_confirmed == 2 && s->core.phase == CIHLOMET_PASS_CHECKED);
+    struct cihlomet_collected c = collect(true);
+    CLAIM(c.status == CIHLOMET_NA && c.count == 1 && c.reference == 10 && c.limit == 0 && c.asks == 0);
+    c = collect(true);
+    CLAIM(c.status == CIHLOMET_NA && c.count == 3 && c.reference == 11 && c.limit == 2 && c.asks == 1);
+}
+
+/* The limit is filled in at submit and lies in the record: it is that one that counts then, not the station's. */
+static void limit_in_the_record(void)
+{
+    second_hold(true, CIHLOMET_SRD);
+    CLAIM(high.at[LIMIT] == 2);
+    s->core.settings.retries = 0;
+    CLAIM(slot(CLOCK).length == 11 && slot(CLOCK).length == 11 && s->core.high_confirmed == 0);
+    CLAIM(slot(CLOCK).length == 3 && collect(true).count == 3);
+    second_hold(false, CIHLOMET_SRD);
+    low.at[LIMIT] = 0;
+    CLAIM(slot(CLOCK).length == 3 && collect(false).count == 1);
+    second_hold(true, CIHLOMET_SDA);
+    high.at[LIMIT] = 3;
+    s->core.sendings = 3;
+    CLAIM(slot(CLOCK).length == 11 && slot(CLOCK).length == 3 && collect(true).count == 4);
+}
+
+/* The reference, the limit and whether it asked come back with each kind of confirmation; of an SDN too. */
+static void kept(void)
+{
+    begin();
+    token(CLOCK - 1000, PS);
+    const struct own sdn = {UINT32_MAX, 15, 0};
+    CLAIM(submit_own(true, CIHLOMET_SDN, LIFT, POINT, OWN_POINT, sdn).refused == 0);
+    CLAIM(srd(true, 1u << 31, 0, 0).refused == 0 && srd(true, 258, 200, 1).refused == 0);
+    CLAIM(srd(false, 0, 6, 0).refused == 0);
+    token(CLOCK, PS);
+    sent(CLOCK);
+    lend_octets(&heard, "\xE5", 1);
+    hear(CLOCK, 0);
+    struct cihlomet_collected c = collect(true);
+    CLAIM(c.status == CIHLOMET_OK && c.count == 1 && c.reference == UINT32_MAX && c.limit == 15 && c.asks == 0);
+    c = collect(true);
+    CLAIM(c.status == CIHLOMET_NR && c.count == 1 && c.reference == 1u << 31 && c.limit == 0 && c.asks == 0);
+    CLAIM(s->core.phase == CIHLOMET_REPLY_AWAITED && reset().refused == 0);
+    c = collect(true);
+    CLAIM(c.status == CIHLOMET_DS && c.count == 1 && c.reference == 258 && c.limit == 2 && c.asks == 1);
+    c = collect(false);
+    CLAIM(c.status == CIHLOMET_DS && c.count == 0 && c.reference == 0 && c.limit == 6 && c.asks == 0);
+}
+
+/* 30: over 15, behind 26 and before 27, for an SDN too, and never for a request that asks. */
+static void limit_refusals(void)
+{
+    const uint8_t none = CIHLOMET_NO_POINT;
+    const struct own over = {1, 16, 0};
+    begin();
+    for (unsigned limit = 16; limit <= 255; limit++)
+        CLAIM(srd(true, 1, (uint8_t)limit, 0).refused == 30 && srd(false, 1, (uint8_t)limit, 0).refused == 30);
+    CLAIM(submit_own(true, CIHLOMET_SDN, 127, none, none, over).refused == 30);
+    CLAIM(submit_own(true, CIHLOMET_SDN, 128, none, none, over).refused == 23);
+    CLAIM(submit_own(true, CIHLOMET_SDN, LIFT, 64, none, over).refused == 24);
+    CLAIM(submit_own(true, 9, LIFT, none, none, over).refused == 25);
+    lend(&data, CIHLOMET_DATA - 1);
+    CLAIM(srd(true, 1, 16, 0).refused == 26);
+    lend(&data, 0);
+    CLAIM(s->core.high_unconfirmed == 0 && srd(true, 1, 15, 0).refused == 0);
+    CLAIM(srd(true, 1, 16, 1).refused == 0 && srd(true, 1, 255, 255).refused == 0);
+    CLAIM(srd(true, 1, 16, 0).refused == 30 && srd(true, 1, 15, 0).refused == 27 && srd(true, 1, 16, 1).refused == 27);
+    s->core.bit = 2;
+    CLAIM(srd(true, 1, 16, 0).refused == 29);
+    lend(&high, high.count - 1);
+    CLAIM(srd(true, 1, 16, 0).refused == 21);
+}
+
+/* What hear, sent and slot say, if all say the same, else 255. */
+static uint8_t turns(void)
+{
+    uint8_t said = hear(CLOCK, 0).refused;
+    return sent(CLOCK).refused == said && slot(CLOCK).refused == said ? said : 255;
+}
+
+/* The limit of an unconfirmed record is looked at by those that may send it, whether it asked or not; that of a
+ * confirmed one by nobody. The number by which a record asked is any, and 1 once the record was written. */
+static void forged_limits(void)
+{
+    for (size_t i = 0; i < 4; i++) {
+        begin();
+        CLAIM(srd(i % 2 == 0, 5, 3, (uint8_t)(i / 2)).refused == 0);
+        uint8_t *record = i % 2 == 0 ? high.at : low.at;
+        record[LIMIT] = 15;
+        CLAIM(turns() == 0);
+        record[LIMIT] = 16;
+        CLAIM(turns() == 29 && submit(i % 2 == 0, CIHLOMET_SRD, LIFT, POINT, OWN_POINT).refused == 0);
+        CLAIM(collect(i % 2 == 0).refused == 28 && reset().refused == 0 && turns() == 0);
+        struct cihlomet_collected c = collect(i % 2 == 0);
+        CLAIM(c.status == CIHLOMET_DS && c.reference == 5 && c.limit == 16 && c.asks == i / 2);
+    }
+    begin();
+    srd(true, 5, 3, 0);
+    high.at[ASKS] = 7;
+    CLAIM(turns() == 0 && high.at[ASKS] == 7 && reset().refused == 0 && high.at[ASKS] == 1);
+    high.at[ASKS] = 255;
+    high.at[LIMIT] = 255;
+    struct cihlomet_collected c = collect(true);
+    CLAIM(c.refused == 0 && c.asks == 1 && c.limit == 255 && c.reference == 5 && high.at[ASKS] == 255);
 }
 
 /* ---- Answering. */
@@ -723,6 +913,13 @@ int main(void)
     statuses();
     collected();
     submit_refusals();
+    record_octets();
+    limits();
+    beside_each_other();
+    limit_in_the_record();
+    kept();
+    limit_refusals();
+    forged_limits();
     indicated();
     active_points();
     row_lengths();

@@ -9,7 +9,14 @@
 #include <stdlib.h>
 #include <string.h>
 
-enum { ADDRESSES = 127, RECORD = 7, DATA = 246, MOST_OCTETS = 1 << 17 };
+enum { ADDRESSES = 127, RECORD = 13, DATA = 246, MOST_OCTETS = 1 << 17 };
+
+_Static_assert(RECORD == (int)CIHLOMET_RECORD && DATA == (int)CIHLOMET_DATA, "a row as the station has it");
+_Static_assert(sizeof(struct parts_queue) == 5, "five octets");
+_Static_assert(offsetof(struct parts_collected, limit) == 9 && offsetof(struct parts_collected, asks) == 10 &&
+                   offsetof(struct parts_collected, unconfirmed) == 13 &&
+                   offsetof(struct parts_collected, reference) == 16 && sizeof(struct parts_collected) == 20,
+               "fourteen octets, then the reference");
 
 static uint8_t *input_end, *row_end, *area_end; /* the fences */
 
@@ -152,11 +159,11 @@ static void say_queue(struct parts_queue queue, size_t most)
 static void ask_submit(char **word)
 {
     size_t count;
-    const uint8_t *data = lay(word[5], input_end, &count);
+    const uint8_t *data = lay(word[8], input_end, &count);
     keep();
     say_queue(parts_submit(lent.ts, lent.places, lent.first, lent.confirmed, lent.unconfirmed, octet(word[1]),
-                           octet(word[2]), point(word[3]), point(word[4]), data, count, lent.row, lent.row_count,
-                           lent.area, lent.area_count), 1);
+                           octet(word[2]), point(word[3]), point(word[4]), wide(word[5]), octet(word[6]),
+                           octet(word[7]), data, count, lent.row, lent.row_count, lent.area, lent.area_count), 1);
 }
 
 static void ask_confirm(char **word)
@@ -183,12 +190,16 @@ static void ask_collect(char **word)
                                                   lent.row_count, lent.area, lent.area_count);
     if (record.refused != 0) {
         printf("refused %u", record.refused);
+        if ((record.place | record.service | record.destination | record.to | record.from | record.length |
+             record.status | record.count | record.limit | record.asks) != 0 || record.reference != 0)
+            printf(" and answered a record");
     } else {
         printf("handed %u %u %u ", record.place, record.service, record.destination);
         say_point(record.to);
         putchar(' ');
         say_point(record.from);
-        printf(" %u %u %u ", record.length, record.status, record.count);
+        printf(" %u %u %u %u %u %u ", record.length, record.status, record.count, record.reference, record.limit,
+               record.asks);
         say_octets(lent.area + (size_t)DATA * record.place, record.length < DATA ? record.length : DATA);
     }
     end(record.first, record.confirmed, record.unconfirmed, 0);
@@ -210,13 +221,21 @@ static void ask_look(char **word)
     putchar('\n');
 }
 
+static void ask_records(char **word)
+{
+    (void)word;
+    say_octets(lent.row, lent.row_count);
+    putchar('\n');
+}
+
 int main(void)
 {
     static const struct call calls[] = {
         {"standard", 1, ask_standard}, {"settings", 10, ask_settings}, {"left", 4, ask_left},
         {"ring", 3, ask_ring},         {"changes", 5, ask_changes},    {"row", 8, ask_row},
-        {"submit", 6, ask_submit},     {"confirm", 4, ask_confirm},    {"drain", 2, ask_drain},
+        {"submit", 9, ask_submit},     {"confirm", 4, ask_confirm},    {"drain", 2, ask_drain},
         {"collect", 1, ask_collect},   {"sound", 1, ask_sound},        {"look", 1, ask_look},
+        {"records", 1, ask_records},
     };
     input_end = fenced();
     row_end = fenced();

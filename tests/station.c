@@ -14,12 +14,17 @@ enum { ROW = MOST_PLACES * CIHLOMET_RECORD, AREA = MOST_PLACES * CIHLOMET_DATA }
 
 _Static_assert(sizeof(struct cihlomet_core) == 60, "no padding: a core is compared by its octets");
 _Static_assert(sizeof(struct cihlomet_station) == 760, "no padding: a station ends with its memory");
+_Static_assert(offsetof(struct cihlomet_collected, reference) == 12, "behind eleven octets");
+_Static_assert(offsetof(struct cihlomet_collected, core) == 16, "behind the reference");
+_Static_assert(sizeof(struct cihlomet_collected) == 76, "a core behind the reference");
 
-/* A queue's row and data area. */
+/* A queue's row and data area, and of the request at each place what no answer of a script shows: the limit that it was
+ * to go by, and whether it asked for the station's. */
 struct rows {
     uint8_t *row, *area;
     size_t row_count, area_count;
     uint8_t *row_end, *area_end; /* their fences */
+    uint8_t limit[MOST_PLACES], asks[MOST_PLACES];
 };
 
 static struct cihlomet_station *station, *offered; /* the station, and what start is to fill */
@@ -303,20 +308,23 @@ static void ask_start(const struct cihlomet_settings *settings, uint8_t ts, uint
     puts("ok");
 }
 
-/* The pairs behind a start's words, in their order; what is left out is standard. The words end with NULL. */
-static bool pairs_in(char **word, struct cihlomet_settings *settings)
+/* A pair that may stand behind a line's words: its name, the most that it takes, its value, which is standard until it
+ * is said, and whether it was. */
+struct pair {
+    const char *name;
+    uint32_t most, value;
+    bool said;
+};
+
+/* The pairs behind a line's words, in their order. The words end with NULL. */
+static bool pairs_in(char **word, struct pair *pairs, size_t count)
 {
-    const struct {
-        const char *name;
-        uint32_t *value;
-        uint32_t standard;
-    } pairs[] = {{"tsdi", &settings->tsdi, cihlomet_standard().tsdi}};
-    for (size_t i = 0; i < sizeof pairs / sizeof pairs[0]; i++) {
-        *pairs[i].value = pairs[i].standard;
+    for (size_t i = 0; i < count; i++) {
         if (*word == NULL || strcmp(*word, pairs[i].name) != 0)
             continue;
-        if (word[1] == NULL || !number_in(word[1], UINT32_MAX, pairs[i].value))
+        if (word[1] == NULL || !number_in(word[1], pairs[i].most, &pairs[i].value))
             return false;
+        pairs[i].said = true;
         word += 2;
     }
     return *word == NULL;
@@ -327,6 +335,7 @@ static bool start(char **word)
     struct cihlomet_settings settings;
     uint32_t *const setting[] = {&settings.tset, &settings.tqui, &settings.min_tsdr, &settings.max_tsdr,
                                  &settings.ttd,  &settings.ttr,  &settings.retries};
+    struct pair tsdi = {"tsdi", UINT32_MAX, cihlomet_standard().tsdi, false};
     uint32_t ts;
     uint8_t places_high, places_low;
     for (size_t i = 0; i < 7; i++)
@@ -337,29 +346,47 @@ static bool start(char **word)
     memset(offered->points, 0, sizeof offered->points);
     if (!number_in(word[8], UINT32_MAX, &ts) || !list_in(word[9], 126, false, offered->masters) ||
         !list_in(word[10], 62, true, offered->points) || !octet_in(word[11], 255, &places_high) ||
-        !octet_in(word[12], 255, &places_low) || !pairs_in(word + 13, &settings))
+        !octet_in(word[12], 255, &places_low) || !pairs_in(word + 13, &tsdi, 1))
         return false;
+    settings.tsdi = tsdi.value;
     ask_start(&settings, ts > 255 ? 255 : (uint8_t)ts, places_high, places_low);
     return true;
 }
 
+/* What a request that asks for the station's limit is given beside: it may not make a difference. */
+static const struct {
+    uint8_t limit, asks;
+} asking[] = {{0, 1}, {255, 1}, {15, 255}, {16, 2}, {1, 128}};
+
 static bool submit(char **word)
 {
+    static size_t asked;
+    struct pair pairs[] = {{"ref", UINT32_MAX, 0, false}, {"limit", UINT8_MAX, 0, false}};
     struct rows *queue;
     uint8_t service, destination, to, from, *data;
     size_t count;
     if (!queue_in(word[1], &queue) || !service_in(word[2], &service) || !octet_in(word[3], 255, &destination) ||
-        !point_in(word[4], &to) || !point_in(word[5], &from) || !octets_in(word[6], input_end, &data, &count))
+        !point_in(word[4], &to) || !point_in(word[5], &from) || !octets_in(word[6], input_end, &data, &count) ||
+        !pairs_in(word + 7, pairs, 2))
         return false;
+    uint8_t limit = (uint8_t)pairs[1].value, asks = 0;
+    if (!pairs[1].said) {
+        limit = asking[asked % (sizeof asking / sizeof asking[0])].limit;
+        asks = asking[asked++ % (sizeof asking / sizeof asking[0])].asks;
+    }
     keep();
-    struct cihlomet_accepted answer =
-        (queue == &high ? cihlomet_submit_high : cihlomet_submit_low)(CIHLOMET_STATION(station), service, destination,
-                                                                      to, from, data, count, ROWS(queue));
+    struct cihlomet_accepted answer = (queue == &high ? cihlomet_submit_high : cihlomet_submit_low)(
+        CIHLOMET_STATION(station), service, destination, to, from, pairs[0].value, limit, asks, data, count,
+        ROWS(queue));
     if (say_refused(answer.refused, &answer.core))
         return true;
     same_arrays();
     (queue == &high ? same_low : same_high)();
+    if (answer.place >= queue->row_count / CIHLOMET_RECORD)
+        stop("a place out of its row");
     station->core = answer.core;
+    queue->limit[answer.place] = asks != 0 ? (uint8_t)station->core.settings.retries : limit;
+    queue->asks[answer.place] = asks != 0;
     puts("ok");
     return true;
 }
@@ -377,6 +404,8 @@ static bool collect(char **word)
     same_all(&before.station.core);
     if (answer.length > CIHLOMET_DATA || answer.place >= queue->row_count / CIHLOMET_RECORD)
         stop("a record out of its row");
+    if (answer.limit != queue->limit[answer.place] || answer.asks != queue->asks[answer.place])
+        stop("a record with another limit than it was submitted with, or it does not say whose");
     station->core = answer.core;
     printf("ok %u ", answer.place);
     say_service(answer.service);
@@ -385,6 +414,8 @@ static bool collect(char **word)
     say_status(answer.status);
     printf(" %u ", answer.count);
     say_octets(queue->area + (size_t)CIHLOMET_DATA * answer.place, answer.length);
+    if (answer.reference != 0)
+        printf(" ref %u", answer.reference);
     putchar('\n');
     return true;
 }
@@ -500,7 +531,7 @@ static const struct {
     const char *word;
     size_t words, pairs;
     bool (*ask)(char **word);
-} calls[] = {{"start", 13, 1, start}, {"submit", 7, 0, submit},   {"frame", 6, 0, frame}, {"sent", 2, 0, sent},
+} calls[] = {{"start", 13, 1, start}, {"submit", 7, 2, submit},   {"frame", 6, 0, frame}, {"sent", 2, 0, sent},
              {"slot", 2, 0, slot},    {"collect", 2, 0, collect}, {"reset", 1, 0, reset}, {"show", 1, 0, show}};
 
 /* Splits a line at its spaces and asks it; false if it is no call, or there is no station to ask. */

@@ -7,7 +7,7 @@ use crate::lends;
 use crate::queue::Priority;
 use crate::random::Random;
 use crate::refusal::members;
-use crate::rows::{DATA, RECORD};
+use crate::rows::{ASKS, DATA, LENGTH, LIMIT, RECORD, STATUS};
 use crate::starts;
 
 type Break = fn(&mut Case, &mut Random);
@@ -269,8 +269,8 @@ fn waiting<'a>(case: &'a mut Case, random: &mut Random) -> Option<&'a mut [u8]> 
 
 /// The oldest confirmed record with any octet changed, most often its status; and none confirmed.
 const CONFIRMED: [Break; 4] = [
-    |case, random| oldest(case, random, 5),
-    |case, random| oldest(case, random, 5),
+    |case, random| oldest(case, random, STATUS),
+    |case, random| oldest(case, random, STATUS),
     |case, random| {
         let octet = random.below(RECORD);
         oldest(case, random, octet);
@@ -291,7 +291,7 @@ fn oldest(case: &mut Case, random: &mut Random, octet: usize) {
 }
 
 /// What submit may refuse in its request, each in one way or just not, and a row that is full.
-const REQUESTS: [Break; 8] = [
+const REQUESTS: [Break; 10] = [
     |case, random| faulty_request(case, random),
     |case, random| faulty_request(case, random),
     |case, random| faulty_request(case, random),
@@ -309,16 +309,25 @@ const REQUESTS: [Break; 8] = [
         faulty_request(case, random);
         faulty_request(case, random);
     },
+    |case, random| own_limit(case, random),
+    // And something else that comes before it, or just not.
+    |case, random| {
+        own_limit(case, random);
+        faulty_request(case, random);
+    },
 ];
 
 fn faulty_request(case: &mut Case, random: &mut Random) {
-    let [service, destination, to, from] = case.request;
-    let mut record = [service, destination, to, from, 0, 0, 0];
-    random.pick(&lends::FAULTS)(&mut record, random, case.core.ts);
-    case.request.copy_from_slice(&record[..4]);
-    if record[4] > 0 {
-        case.data = Some(record[4].into());
+    case.request[LENGTH] = 0;
+    random.pick(&lends::FAULTS)(&mut case.request, random, case.core.ts);
+    if case.request[LENGTH] > 0 {
+        case.data = Some(case.request[LENGTH].into());
     }
+}
+
+/// A limit of the request's own, at or over 15.
+fn own_limit(case: &mut Case, random: &mut Random) {
+    (case.request[LIMIT], case.request[ASKS]) = (random.pick(&[15, 16, 17, 128, 255]), 0);
 }
 
 /// Row lengths that start may refuse.

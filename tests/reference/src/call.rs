@@ -5,7 +5,7 @@ use crate::queue::{Priority, Request, Service};
 use crate::station::{Points, Start};
 use crate::text::unhex;
 use crate::times::{Settings, STANDARD};
-use crate::transitions::Transition;
+use crate::transitions::{note, Transition};
 
 /// The most characters of a line, without its end.
 const LONGEST_LINE: usize = 4096;
@@ -52,6 +52,7 @@ fn operand_count(name: &str) -> Option<usize> {
 fn pair_names(name: &str) -> &'static [&'static str] {
     match name {
         "start" => &["tsdi"],
+        "submit" => &["ref", "limit"],
         _ => &[],
     }
 }
@@ -77,15 +78,9 @@ fn pairs(names: &[&str], words: &[&str]) -> Result<Vec<Option<u32>>, Transition>
 fn call(name: &str, operands: &[&str], values: &[Option<u32>]) -> Option<Call> {
     match (name, operands) {
         ("start", operands) => start(operands, values).map(Call::Start),
-        ("submit", &[queue, service, destination, to, from, data]) => {
-            let request = Request {
-                service: service_of(service)?,
-                destination: octet(destination)?,
-                to: point(to)?,
-                from: point(from)?,
-                data: octets(data)?,
-            };
-            Some(Call::Submit { priority: queue_of(queue)?, request })
+        ("submit", &[queue, ref request @ ..]) => {
+            let priority = queue_of(queue)?;
+            submit(request, values).map(|request| Call::Submit { priority, request })
         }
         ("frame", &[clock, room, high, low, heard]) => Some(Call::Frame {
             clock: number(clock)?,
@@ -101,6 +96,36 @@ fn call(name: &str, operands: &[&str], values: &[Option<u32>]) -> Option<Call> {
         ("show", &[]) => Some(Call::Show),
         _ => None,
     }
+}
+
+/// The request of a submit. Without a limit it asks for the station's.
+fn submit(operands: &[&str], values: &[Option<u32>]) -> Option<Request> {
+    let &[service, destination, to, from, data] = operands else {
+        return None;
+    };
+    let &[reference, limit] = values else {
+        return None;
+    };
+    let request = Request {
+        service: service_of(service)?,
+        destination: octet(destination)?,
+        to: point(to)?,
+        from: point(from)?,
+        data: octets(data)?,
+        reference: reference.unwrap_or(0),
+        limit: limit.unwrap_or(0).try_into().ok()?,
+        asks: limit.is_none(),
+    };
+    note(match (reference, limit) {
+        (None, None) => Transition::LineSubmitPlain,
+        (Some(_), None) => Transition::LineSubmitRef,
+        (None, Some(_)) => Transition::LineSubmitLimit,
+        (Some(_), Some(_)) => Transition::LineSubmitBoth,
+    });
+    if reference == Some(0) {
+        note(Transition::LineSubmitRef0);
+    }
+    Some(request)
 }
 
 fn start(operands: &[&str], values: &[Option<u32>]) -> Option<Start> {

@@ -1,6 +1,6 @@
 //! A forged case: one call with a station, rows and buffers that no run need have made. Each is a line of words with
 //! one space between. Numbers are decimal; NUMBERS and OCTETS are joined by commas. CORE is the numbers of struct
-//! cihlomet_core in the header's order, seven settings first. A list of octets (MASTERS, STARTED, MARKS, POINTS) is the
+//! cihlomet_core in the header's order, eight settings first. A list of octets (MASTERS, STARTED, MARKS, POINTS) is the
 //! octet of every place, then PLACE=OCTET for each other one. A COUNT of octets may be `null`: none, at no address.
 //! ROW is COUNT:HEX, a row of that many octets that begins with those of HEX.
 //!
@@ -9,7 +9,7 @@
 //! | `hear` | STATION ROW AREA ROW AREA OUT CLOCK ROOM UPDATE UPDATE HEX |
 //! | `sent`, `slot` | STATION ROW AREA ROW AREA OUT CLOCK |
 //! | `reset` | STATION ROW AREA ROW AREA |
-//! | `submit_high`, `submit_low` | STATION ROW AREA SERVICE DA DSAP SSAP COUNT |
+//! | `submit_high`, `submit_low` | STATION ROW AREA SERVICE DA DSAP SSAP REFERENCE LIMIT ASKS COUNT |
 //! | `collect_high`, `collect_low` | STATION ROW AREA |
 //! | `start` | SETTINGS TS MASTERS POINTS PLACES PLACES |
 //!
@@ -18,6 +18,7 @@
 use std::str::FromStr;
 
 use crate::queue::Priority;
+use crate::rows::{Record, ASKS, LIMIT, RECORD, REFERENCE};
 use crate::text::{hex, unhex};
 use crate::times::Settings;
 
@@ -188,8 +189,9 @@ pub struct Case {
     pub room: u8,
     pub updates: [Count; 2],
     pub heard: Vec<u8>,
-    /// What submit is given: service, DA, destination and source point, and how many octets of data.
-    pub request: [u8; 4],
+    /// What submit is given, as the octets of a record whose length, status and count are not looked at; and how many
+    /// octets of data.
+    pub request: [u8; RECORD],
     pub data: Count,
     /// What start is given as row lengths.
     pub places: [u64; 2],
@@ -240,8 +242,11 @@ impl Case {
             }
             Call::Sent | Call::Slot => turn.to_vec(),
             Call::Submit(_) => {
-                let request = self.request.iter().map(u8::to_string);
-                request.chain([count_word(self.data)]).collect()
+                let mut words: Vec<String> = self.request[..4].iter().map(u8::to_string).collect();
+                words.push(Record::read(0, &self.request).reference.to_string());
+                words.extend([self.request[LIMIT], self.request[ASKS]].map(|octet| octet.to_string()));
+                words.push(count_word(self.data));
+                words
             }
             Call::Reset | Call::Collect(_) | Call::Start => Vec::new(),
         }
@@ -295,7 +300,11 @@ impl Case {
             self.heard = unhex(&next::<String>(words)?)?;
         }
         if let Call::Submit(_) = self.call {
-            self.request = [next(words)?, next(words)?, next(words)?, next(words)?];
+            for octet in &mut self.request[..4] {
+                *octet = next(words)?;
+            }
+            self.request[REFERENCE..LIMIT].copy_from_slice(&next::<u32>(words)?.to_le_bytes());
+            (self.request[LIMIT], self.request[ASKS]) = (next(words)?, next(words)?);
             self.data = read_count(&next::<String>(words)?)?;
         }
         Ok(())
@@ -340,7 +349,7 @@ pub fn blank(call: Call) -> Case {
         room: 0,
         updates: [None; 2],
         heard: Vec::new(),
-        request: [0; 4],
+        request: [0; RECORD],
         data: None,
         places: [0; 2],
     }

@@ -12,7 +12,7 @@ use crate::queue::Priority;
 use crate::random::Random;
 use crate::refusal::members;
 use crate::ring::{Ring, ADDRESSES};
-use crate::rows::{DATA, RECORD, STATUSES};
+use crate::rows::{ASKS, DATA, LIMIT, RECORD, STATUS, STATUSES};
 use crate::starts;
 
 /// So many cases.
@@ -154,21 +154,24 @@ fn put(case: &mut Case, queue: Priority, turn: usize, octets: &[u8; RECORD]) {
     record_mut(case, queue, turn).expect("a place of a lawful row").copy_from_slice(octets);
 }
 
-/// A confirmed record: a status that is named, and any octets before it.
+/// A confirmed record: a status that is named, and any octets around it, or only any limit.
 fn confirmed(random: &mut Random) -> [u8; RECORD] {
     let mut octets =
         if random.one_in(3) { std::array::from_fn(|_| random.octet()) } else { lends::record(random) };
-    octets[5] = random.pick(&STATUSES);
+    octets[STATUS] = random.pick(&STATUSES);
+    if random.one_in(4) {
+        octets[LIMIT] = random.octet();
+    }
     octets
 }
 
-/// A record that submit would take, with any status and count.
+/// A record that submit would take, with any status and count. Whether it asked is any octet.
 fn unconfirmed_record(ts: u8, random: &mut Random) -> [u8; RECORD] {
     let mut octets = lends::record(random);
     if octets[1] == ts {
         octets[1] = (ts + 1) % ADDRESSES;
     }
-    octets[5] = random.pick(&[255, 255, octets[5]]);
+    octets[STATUS] = random.pick(&[255, 255, octets[STATUS]]);
     octets
 }
 
@@ -213,10 +216,13 @@ fn heard(case: &Case, random: &mut Random) -> Vec<u8> {
     }
 }
 
-/// A request that submit takes.
+/// A request that submit takes. If it asks for the station's limit it may name any.
 fn request(case: &mut Case, random: &mut Random) {
-    let octets = unconfirmed_record(case.core.ts, random);
-    case.request.copy_from_slice(&octets[..4]);
+    case.request = unconfirmed_record(case.core.ts, random);
+    if case.request[ASKS] != 0 && random.one_in(2) {
+        let any = random.octet();
+        case.request[LIMIT] = random.pick(&[15, 16, 255, any]);
+    }
     case.data = random.pick(&[None, Some(0), Some(1), Some(243), Some(244)]);
 }
 

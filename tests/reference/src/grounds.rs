@@ -22,7 +22,7 @@ const ONE_ROW: Meets = |call| matches!(call, Call::Submit(_) | Call::Collect(_))
 const ANY: Meets = |_| true;
 
 /// Each ground and the calls that can meet it.
-const POSSIBLE: [(Meets, Ground); 43] = [
+const POSSIBLE: [(Meets, Ground); 45] = [
     (STARTS, (20, "setting out of range")),
     (STARTS, (20, "TSL over 65535")),
     (STARTS, (20, "TS over 126")),
@@ -56,12 +56,14 @@ const POSSIBLE: [(Meets, Ground); 43] = [
     (TURNS, (29, "a record's access point")),
     (TURNS, (29, "a record's service")),
     (TURNS, (29, "a record's data and access points")),
+    (TURNS, (29, "a record's limit")),
     (TURNS, (29, "the reply to an SDN awaited")),
     (TURNS, (29, "no SDN going out")),
     (SUBMITS, (23, "destination")),
     (SUBMITS, (24, "access point")),
     (SUBMITS, (25, "service")),
     (SUBMITS, (26, "data and access points")),
+    (SUBMITS, (30, "limit")),
     (SUBMITS, (27, "every place in use")),
     (COLLECTS, (28, "none confirmed")),
     (COLLECTS, (29, "status not named")),
@@ -71,7 +73,7 @@ const POSSIBLE: [(Meets, Ground); 43] = [
 const ACCEPTED: Ground = (0, "accepted");
 
 /// Numbers that one case can have grounds for, the one to be given first.
-const ORDER: [(Meets, Refusal, Refusal); 20] = [
+const ORDER: [(Meets, Refusal, Refusal); 27] = [
     (STARTS, 20, 21),
     (TURNS, 21, 22),
     (HAS_STATE, 21, 29),
@@ -80,16 +82,23 @@ const ORDER: [(Meets, Refusal, Refusal); 20] = [
     (SUBMITS, 21, 24),
     (SUBMITS, 21, 25),
     (SUBMITS, 21, 26),
+    (SUBMITS, 21, 30),
     (SUBMITS, 21, 27),
     (SUBMITS, 29, 23),
     (SUBMITS, 29, 24),
     (SUBMITS, 29, 25),
     (SUBMITS, 29, 26),
+    (SUBMITS, 29, 30),
     (SUBMITS, 29, 27),
+    (SUBMITS, 23, 30),
+    (SUBMITS, 24, 30),
+    (SUBMITS, 25, 30),
+    (SUBMITS, 26, 30),
     (SUBMITS, 23, 27),
     (SUBMITS, 24, 27),
     (SUBMITS, 25, 27),
     (SUBMITS, 26, 27),
+    (SUBMITS, 30, 27),
     (COLLECTS, 21, 28),
     (COLLECTS, 29, 28),
 ];

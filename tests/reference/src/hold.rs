@@ -4,7 +4,7 @@ use crate::frame::{self, Head, REQUEST};
 use crate::queue::{Priority, Service};
 use crate::station::{Exchange, Outcome, Phase, Sending, Station};
 use crate::times::elapsed;
-use crate::transitions::{note, Transition};
+use crate::transitions::{note, note_each, Transition};
 
 impl Station {
     /// Idle: a token to TS. From PS it begins a hold; from another station the second in a row does.
@@ -123,13 +123,12 @@ impl Station {
         };
         let passed = elapsed(before, clock);
         note(if self.time_left(clock) { Transition::TimeLeft } else { Transition::TimeLate });
-        let found = [
+        note_each(&[
             (passed == self.settings.ttr - 1, Transition::TimeJustLeft),
             (passed == self.settings.ttr, Transition::TimeJustOver),
             (clock < before && passed < 1 << 31, Transition::TimeWrapped),
             (clock < before && passed >= 1 << 31, Transition::TimeBack),
-        ];
-        found.iter().filter(|(is_so, _)| *is_so).for_each(|(_, transition)| note(*transition));
+        ]);
     }
 }
 

@@ -3,7 +3,7 @@
 
 use crate::draft::data_count;
 use crate::random::Random;
-use crate::rows::{DATA, RECORD, STATUSES};
+use crate::rows::{Record, ASKS, DATA, LENGTH, LIMIT, RECORD, REFERENCE, STATUSES};
 use crate::text::hex;
 
 /// What records hold where none was submitted yet.
@@ -73,16 +73,16 @@ fn run(random: &mut Random, calls: &mut Vec<String>) {
             _ => "collect".to_string(),
         });
         if random.one_in(20 + 4 * size) {
-            calls.push(random.pick(&["sound", "look"]).to_string());
+            calls.push(random.pick(&["sound", "look", "records"]).to_string());
         }
         if random.one_in(100) {
             calls.push(drain(random));
         }
     }
-    calls.extend(["sound", "look"].map(str::to_string));
+    calls.extend(["sound", "look", "records"].map(str::to_string));
 }
 
-/// A submit, one in six with something that may be refused.
+/// A submit, one in six with something that may be refused. Whether it asks is any octet.
 fn submit(random: &mut Random, own: u8) -> String {
     let mut record = record(random);
     if random.one_in(6) {
@@ -91,8 +91,9 @@ fn submit(random: &mut Random, own: u8) -> String {
     let most = if random.one_in(8) { DATA + 4 } else { 12 };
     let count = data_count(random, most);
     let [service, destination, to, from, ..] = record;
-    let data = hex(&random.octets(count));
-    format!("submit {service} {destination} {} {} {data}", point_word(to), point_word(from))
+    let (reference, limit, asks) = (Record::read(0, &record).reference, record[LIMIT], record[ASKS]);
+    let (to, from, data) = (point_word(to), point_word(from), hex(&random.octets(count)));
+    format!("submit {service} {destination} {to} {from} {reference} {limit} {asks} {data}")
 }
 
 fn point_word(point: u8) -> String {
@@ -118,18 +119,34 @@ pub fn record(random: &mut Random) -> [u8; RECORD] {
     let point = |random: &mut Random| if random.one_in(2) { NO_POINT } else { random.below(63) as u8 };
     let (service, destination) = (random.pick(&SERVICES), random.below(127) as u8);
     let (to, from, length) = (point(random), point(random), data_count(random, 244) as u8);
-    [service, destination, to, from, length, random.pick(&STATUSES), random.octet()]
+    let mut record = [0; RECORD];
+    record[..REFERENCE].copy_from_slice(&[
+        service,
+        destination,
+        to,
+        from,
+        length,
+        random.pick(&STATUSES),
+        random.octet(),
+    ]);
+    let any = random.below(1 << 32) as u32;
+    let reference = random.pick(&[0, 1, 1 << 31, u32::MAX, any, any]);
+    record[REFERENCE..LIMIT].copy_from_slice(&reference.to_le_bytes());
+    let any = random.octet();
+    (record[LIMIT], record[ASKS]) = (random.below(16) as u8, random.pick(&[0, 0, 1, 1, 2, any]));
+    record
 }
 
 /// What submit may refuse in a record, each in one way or just not.
-pub const FAULTS: [fn(&mut [u8; RECORD], &mut Random, u8); 7] = [
+pub const FAULTS: [fn(&mut [u8; RECORD], &mut Random, u8); 8] = [
     |record, random, _| record[0] = random.octet(),
     |record, _, own| record[1] = own,
     |record, random, _| record[1] = random.pick(&[126, 127, 128, 255]),
     |record, random, _| (record[0], record[1]) = (random.pick(&SERVICES), 127),
     |record, random, _| record[2] = random.pick(&[62, 63, 64, 254]),
     |record, random, _| record[3] = random.pick(&[62, 63, 64, 254]),
-    |record, random, _| record[4] = 243 + random.below(13) as u8,
+    |record, random, _| record[LENGTH] = 243 + random.below(13) as u8,
+    |record, random, _| record[LIMIT] = random.pick(&[15, 16, 17, 128, 255]),
 ];
 
 /// A row with some fault in its lengths, its counts or its records, and every call on it.
@@ -158,7 +175,7 @@ fn damaged(random: &mut Random, calls: &mut Vec<String>) {
     calls.push(drain(random));
     calls.push("collect".to_string());
     if random.one_in(4) {
-        calls.push("look".to_string());
+        calls.extend(["look", "records"].map(str::to_string));
     }
 }
 
@@ -183,15 +200,17 @@ fn any_record(random: &mut Random, own: u8) -> [u8; RECORD] {
 }
 
 /// Faults of a row's lengths and counts; the last few leave them as they are, so that the records decide.
-const DAMAGES: [fn(&mut Lent, &mut Random); 12] = [
+const DAMAGES: [fn(&mut Lent, &mut Random); 13] = [
     |lent, random| {
-        let count = lent.records.len() + random.pick(&[1, 6, 7, 8]);
+        let count = lent.records.len() + random.pick(&[1, RECORD - 1, RECORD, RECORD + 1]);
         lent.records.resize(count, BEFORE);
     },
     |lent, random| {
-        let count = lent.records.len() - random.pick(&[1, 6, 7]);
+        let count = lent.records.len() - random.pick(&[1, RECORD - 1, RECORD]);
         lent.records.truncate(count);
     },
+    // As many octets as a row had while a record had no reference and no limit.
+    |lent, _| lent.records.truncate(REFERENCE * usize::from(lent.places)),
     |lent, random| lent.area += random.pick(&[1, 245, 246, 247]),
     |lent, random| lent.area -= random.pick(&[1, 245, 246]),
     |lent, random| {

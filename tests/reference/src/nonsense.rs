@@ -94,8 +94,52 @@ const NO_CALLS: &[&str] = &[
     "start 20 0 20 400 1 10000 1 2 2,5 none 4 4 gap 10",
     "start 20 0 20 400 1 10000 1 2 2,5 none 4 4 tsdi 5 hsa 126",
     "start 20 0 20 400 1 10000 1 2 2,5 none 4 4 edition 0 tsdi 5",
-    "submit high srd 7 - - - ref 1",
+    "start 20 0 20 400 1 10000 1 2 2,5 none 4 4 ref 1",
+    "start 20 0 20 400 1 10000 1 2 2,5 none 4 4 limit 1",
+    "start 20 0 20 400 1 10000 1 2 2,5 none 4 4 tsdi 5 ref 1",
     "submit high srd 7 - - - tsdi 5",
+    "submit high srd 7 - - - ref 1 tsdi 5",
+    "submit high srd 7 - - ref 1",
+    "submit high srd 7 - - limit 1 -",
+    "submit high ref 1 srd 7 - - -",
+    "submit high srd 7 - - - ref",
+    "submit high srd 7 - - - limit",
+    "submit high srd 7 - - - ref limit 1",
+    "submit high srd 7 - - - ref 1 limit",
+    "submit high srd 7 - - - ref 1 1",
+    "submit high srd 7 - - - 1 ref",
+    "submit high srd 7 - - - limit 1 ref 1",
+    "submit high srd 7 - - - ref 1 ref 1",
+    "submit high srd 7 - - - limit 1 limit 1",
+    "submit high srd 7 - - - ref 1 limit 1 limit 1",
+    "submit high srd 7 - - - ref 1 limit 1 ref 1",
+    "submit high srd 7 - - - ref 1 limit 1 1",
+    "submit high srd 7 - - - ref -",
+    "submit high srd 7 - - - ref -1",
+    "submit high srd 7 - - - ref +1",
+    "submit high srd 7 - - - ref 0x1",
+    "submit high srd 7 - - - ref 4294967296",
+    "submit high srd 7 - - - ref 18446744073709551617",
+    "submit high srd 7 - - - limit -",
+    "submit high srd 7 - - - limit 256",
+    "submit high srd 7 - - - limit 4294967296",
+    "submit high srd 7 - - - limit 4294967297",
+    "submit high srd 7 - - - ref 1 limit 256",
+    "submit high srd 7 - - - ref 4294967296 limit 1",
+    "submit high srd 7 - - - Ref 1",
+    "submit high srd 7 - - - LIMIT 1",
+    "submit high srd 7 - - - reference 1",
+    "submit high srd 7 - - - limits 1",
+    "submit high srd 7 - - - ref1 1",
+    "submit high srd 7 - - - asks 1",
+    "submit high srd 7 - - - ref 1 retry 1",
+    "collect high ref 1",
+    "collect high limit 1",
+    "reset ref 1",
+    "slot 1 ref 1",
+    "sent 1 limit 1",
+    "frame 1 0 - - - ref 1",
+    "show ref 1",
     "show tsdi 5",
     "sent 1 tsdi 5",
 ];
@@ -114,16 +158,32 @@ pub fn line(random: &mut Random) -> String {
     }
 }
 
-/// The same call in other characters: more spaces, lower-case hex, a clock with leading zeros, a longest line.
+/// The same call in other characters: more spaces, lower-case hex, numbers with leading zeros, a longest line.
 pub fn rewritten(random: &mut Random, line: &str) -> String {
-    match random.below(5) {
+    match random.below(6) {
         0 => line.replace(' ', "  "),
         1 => format!(" {line}   "),
         2 => line.to_lowercase(),
         3 if line.len() < 4096 => format!("{line}{}", " ".repeat(4096 - line.len())),
+        4 => line.replace(" ref ", " ref 000000000000").replace(" limit ", " limit 000000000000"),
         _ => match line.split_once(' ') {
             Some((word @ ("frame" | "sent" | "slot"), rest)) => format!("{word} 000000000000{rest}"),
             _ => line.to_string(),
         },
+    }
+}
+
+#[cfg(test)]
+mod tests {
+    use super::*;
+    use crate::replay::Replay;
+
+    #[test]
+    fn none_of_them_is_a_call() {
+        let mut replay = Replay::default();
+        assert_eq!(replay.answers(b"start 20 0 20 400 1 10000 1 2 2,5 none 4 4\n"), "ok\n");
+        for line in NO_CALLS {
+            assert_eq!(replay.answer(line.as_bytes()).as_deref(), Some("?"), "{line}");
+        }
     }
 }

@@ -1,22 +1,23 @@
 //! What the reference answers to a script of the station's parts, a line for each call. Words are separated by one
 //! space, numbers are decimal, octets upper-case hex, `-` is none. Calls on a row go to the row that the last `row`
-//! laid out: its queue's numbers, its records' octets (7 a place) and how many octets of AA its data area has.
-//! QUEUE is the first place in use and how many requests are confirmed and how many not. TIMES are TSM, Tid1, Tid2,
+//! laid out: its queue's numbers, its records' octets (13 a place) and how many octets of AA its data area has.
+//! QUEUE is the first place in use and how many requests are confirmed and how many not. RECORD is SERVICE DA DSAP SSAP
+//! LENGTH STATUS COUNT REFERENCE LIMIT ASKS. TIMES are TSM, Tid1, Tid2,
 //! TSL, TTO and the waits before a reply, after an SDN and before others, each 0 when refused.
 //!
 //! | Call | Answers |
 //! |---|---|
-//! | `standard` | the standard settings: TSET TQUI MINTSDR MAXTSDR TTD TTR RETRIES |
-//! | `settings TSET TQUI MINTSDR MAXTSDR TTD TTR RETRIES TS` | the refusal or 0, and TIMES |
+//! | `standard` | the standard settings: TSET TQUI MINTSDR MAXTSDR TTD TTR RETRIES TSDI |
+//! | `settings TSET TQUI MINTSDR MAXTSDR TTD TTR RETRIES TSDI TS` | the refusal or 0, and TIMES |
 //! | `left CLOCK ACCEPTANCE TTR` | 1 if time is left, else 0 |
 //! | `ring TS MASTERS` | NS and PS, or 255 for each |
 //! | `changes LAW TS LIST CHANGES` | the masters once the changes were made to the list of 127 octets, NS and PS |
 //! | `row TS PLACES FIRST CONFIRMED UNCONFIRMED RECORDS AREA` | `row` |
-//! | `submit SERVICE DA DSAP SSAP DATA` | `ok PLACE QUEUE` or `refused N QUEUE` |
+//! | `submit SERVICE DA DSAP SSAP REFERENCE LIMIT ASKS DATA` | `ok PLACE QUEUE` or `refused N QUEUE` |
 //! | `confirm STATUS COUNT DATA`, `drain COUNT` | `ok 0 QUEUE` or `refused N QUEUE` |
-//! | `collect` | `handed PLACE SERVICE DA DSAP SSAP LENGTH STATUS COUNT DATA QUEUE` or `refused N QUEUE` |
+//! | `collect` | `handed PLACE RECORD DATA QUEUE` or `refused N QUEUE` |
 //! | `sound` | the refusal of the queue or its unconfirmed records or 0, and QUEUE |
-//! | `look` | the data area |
+//! | `look`, `records` | the data area; the row |
 
 use std::str::FromStr;
 
@@ -81,6 +82,7 @@ impl Parts {
                 Ok("row".to_string())
             }
             ["look"] => Ok(hex(&self.row.area)),
+            ["records"] => Ok(hex(&self.row.octets)),
             _ => self.answer_queue(&words, call),
         }
     }
@@ -88,18 +90,9 @@ impl Parts {
     /// A call on the row: its answer ends with the queue.
     fn answer_queue(&mut self, words: &[&str], call: &str) -> Result<String, String> {
         let answer = match *words {
-            ["submit", service, destination, to, from, data] => {
-                let record = Record {
-                    place: 0,
-                    service: number(service)?,
-                    destination: number(destination)?,
-                    to: point(to)?,
-                    from: point(from)?,
-                    length: 0,
-                    status: 0,
-                    count: 0,
-                };
-                say(self.row.submit(record, &unhex(data)?).map(|place| format!("ok {place}")))
+            ["submit", ref record @ .., data] => {
+                let submitted = self.row.submit(record_of(record)?, &unhex(data)?);
+                say(submitted.map(|place| format!("ok {place}")))
             }
             ["confirm", status, count, data] => {
                 let confirmed = self.row.confirm(number(status)?, number(count)?, &unhex(data)?);
@@ -124,6 +117,26 @@ fn point(word: &str) -> Result<Option<u8>, String> {
         "-" => Ok(None),
         word => number(word).map(Some),
     }
+}
+
+/// What submit is given of a record. It asks by any number but 0.
+fn record_of(words: &[&str]) -> Result<Record, String> {
+    let &[service, destination, to, from, reference, limit, asks] = words else {
+        return Err("no request".to_string());
+    };
+    Ok(Record {
+        place: 0,
+        service: number(service)?,
+        destination: number(destination)?,
+        to: point(to)?,
+        from: point(from)?,
+        length: 0,
+        status: 0,
+        count: 0,
+        reference: number(reference)?,
+        limit: number(limit)?,
+        asks: number::<u8>(asks)? != 0,
+    })
 }
 
 fn layout_of(words: &[&str]) -> Result<Layout, String> {
@@ -187,9 +200,10 @@ fn say(outcome: Result<String, Refusal>) -> String {
 }
 
 fn say_record(record: &Record, data: &[u8]) -> String {
-    let Record { place, service, destination, length, status, count, .. } = record;
-    let (to, from) = (optional(record.to), optional(record.from));
-    format!("handed {place} {service} {destination} {to} {from} {length} {status} {count} {}", hex(data))
+    let Record { place, service, destination, length, status, count, reference, limit, .. } = record;
+    let (to, from, asks) = (optional(record.to), optional(record.from), u8::from(record.asks));
+    let request = format!("{service} {destination} {to} {from} {length} {status} {count}");
+    format!("handed {place} {request} {reference} {limit} {asks} {}", hex(data))
 }
 
 #[cfg(test)]
@@ -232,30 +246,64 @@ mod tests {
     #[test]
     fn a_row() {
         let calls = [
-            "row 2 1 0 0 0 AAAAAAAAAAAAAA 246",
-            "submit 12 7 60 62 0102",
-            "submit 12 7 60 62 0102",
+            "row 2 1 0 0 0 AAAAAAAAAAAAAAAAAAAAAAAAAA 246",
+            "submit 12 7 60 62 258 16 1 0102",
+            "submit 12 7 60 62 258 15 200 0102",
+            "records",
+            "submit 12 7 60 62 258 15 1 0102",
+            "submit 12 7 60 62 258 16 1 0102",
             "sound",
             "confirm 9 1 -",
+            "records",
             "collect",
             "collect",
-            "row 2 1 0 1 0 AAAAAAAAAAAAAA 245",
+            "row 2 1 0 1 0 AAAAAAAAAAAAAAAAAAAAAAAAAA 245",
             "collect",
-            "row 2 1 0 1 0 0C073C3E040405 246",
+            "row 2 1 0 1 0 AAAAAAAAAAAAAA 246",
+            "collect",
+            "row 2 1 0 1 0 0C073C3E040405000000000000 246",
             "collect",
         ];
         let expected = [
             "row",
+            "refused 30 0 0 0",
             "ok 0 0 0 1",
+            "0C073C3E02FF00020100000F01",
             "refused 27 0 0 1",
+            "refused 30 0 0 1",
             "0 0 0 1",
             "ok 0 0 1 0",
-            "handed 0 12 7 60 62 0 9 1 - 0 0 0",
+            "0C073C3E000901020100000F01",
+            "handed 0 12 7 60 62 0 9 1 258 15 1 - 0 0 0",
             "refused 28 0 0 0",
             "row",
             "refused 21 0 1 0",
             "row",
+            "refused 21 0 1 0",
+            "row",
             "refused 29 0 1 0",
+        ];
+        assert_eq!(answers(&calls), expected);
+    }
+
+    /// A limit over 15 and the flag 7 in a record: 29, but a confirmation keeps the one and writes the other as 1.
+    #[test]
+    fn a_forged_record() {
+        let calls = [
+            "row 2 1 0 0 1 0C073C3E04FF05FFFFFFFF1007 246",
+            "sound",
+            "records",
+            "confirm 16 3 -",
+            "records",
+            "collect",
+        ];
+        let expected = [
+            "row",
+            "29 0 0 1",
+            "0C073C3E04FF05FFFFFFFF1007",
+            "ok 0 0 1 0",
+            "0C073C3E001003FFFFFFFF1001",
+            "handed 0 12 7 60 62 0 16 3 4294967295 16 1 - 0 0 0",
         ];
         assert_eq!(answers(&calls), expected);
     }

@@ -8,7 +8,10 @@ use crate::transitions::{note, Transition};
 /// The most places of a row.
 pub const LONGEST_ROW: u8 = 64;
 
-/// A refusal's number in document 01, 20 to 29.
+/// The greatest retry limit, of a station and of a request.
+pub const MOST_RETRIES: u8 = 15;
+
+/// A refusal's number in documents 01 and 02, 20 to 30.
 pub type Refusal = u8;
 
 #[derive(Clone, Copy, Debug, PartialEq)]
@@ -42,7 +45,7 @@ pub enum Status {
     Ds,
 }
 
-/// What a caller submits; a confirmation replaces the data.
+/// What a caller submits; a confirmation replaces the data and keeps the rest.
 #[derive(Clone, Debug)]
 pub struct Request {
     pub service: Service,
@@ -50,11 +53,32 @@ pub struct Request {
     pub to: Option<u8>,
     pub from: Option<u8>,
     pub data: Vec<u8>,
+    /// The caller's own number, handed back untouched.
+    pub reference: u32,
+    /// How often the request is sent again at most.
+    pub limit: u8,
+    /// Whether the request asks for the station's limit.
+    pub asks: bool,
 }
 
 impl Request {
-    /// Submit's refusals 23 to 26 for a station of this address, first match in that order.
+    /// The request as submit takes it at a station with this limit: filled in where the request asks for it,
+    /// whatever number was typed.
+    pub fn filled(self, station_limit: u32) -> Request {
+        let filled = u8::try_from(station_limit).unwrap_or(u8::MAX);
+        let limit = if self.asks { filled } else { self.limit };
+        Request { limit, ..self }
+    }
+
+    /// Submit's refusals 23 to 26 and 30 for a station of this address, first match in that order. The limit is
+    /// looked at as it stands.
     pub fn refuse(&self, own: u8) -> Result<(), Refusal> {
+        self.refuse_fields(own)?;
+        self.refuse_limit()
+    }
+
+    /// 23 to 26.
+    pub fn refuse_fields(&self, own: u8) -> Result<(), Refusal> {
         self.refuse_destination(own)?;
         self.refuse_points()?;
         if !matches!(self.service, Service::Sda | Service::Sdn | Service::Srd) {
@@ -65,6 +89,16 @@ impl Request {
         if unit > LONGEST_UNIT {
             note(Transition::SubmitRefusedLength);
             return Err(26);
+        }
+        Ok(())
+    }
+
+    /// 30, for every service.
+    pub fn refuse_limit(&self) -> Result<(), Refusal> {
+        if self.limit > MOST_RETRIES {
+            let is_sdn = self.service == Service::Sdn;
+            note(if is_sdn { Transition::SubmitRefusedLimitSdn } else { Transition::SubmitRefusedLimit });
+            return Err(30);
         }
         Ok(())
     }
@@ -181,7 +215,8 @@ mod tests {
     use super::*;
 
     fn request(service: Service, destination: u8) -> Request {
-        Request { service, destination, to: None, from: None, data: vec![1, 2] }
+        let data = vec![1, 2];
+        Request { service, destination, to: None, from: None, data, reference: 0, limit: 0, asks: false }
     }
 
     #[test]
@@ -216,5 +251,52 @@ mod tests {
         assert_eq!(Request { from: Some(0), data: vec![0; 246], ..sda() }.refuse(2), Err(26));
         assert_eq!(Request { to: Some(63), ..request(Service::Sdn, 127) }.refuse(2), Ok(()));
         assert_eq!(Request { data: vec![0; 246], ..sda() }.refuse(2), Ok(()));
+    }
+
+    /// Document 02's order 6: 30 comes behind 23 to 26, for SDN too, and 15 is no ground for it.
+    #[test]
+    fn a_limit_over_15() {
+        let over = |request: Request| Request { limit: 16, ..request };
+        let sda = || over(request(Service::Sda, 7));
+        assert_eq!(over(request(Service::Sda, 128)).refuse(2), Err(23));
+        assert_eq!(Request { to: Some(64), ..sda() }.refuse(2), Err(24));
+        assert_eq!(over(request(Service::Ident, 7)).refuse(2), Err(25));
+        assert_eq!(Request { data: vec![0; 247], ..sda() }.refuse(2), Err(26));
+        for service in [Service::Sda, Service::Sdn, Service::Srd] {
+            assert_eq!(over(request(service, 7)).refuse(2), Err(30));
+            assert_eq!(Request { limit: 255, ..request(service, 7) }.refuse(2), Err(30));
+            assert_eq!(Request { limit: 15, ..request(service, 7) }.refuse(2), Ok(()));
+        }
+        assert_eq!(over(request(Service::Sdn, 127)).refuse(2), Err(30));
+    }
+
+    /// The station's limit goes to the requests that ask for it, whatever they typed, and to no other.
+    #[test]
+    fn the_station_fills_a_limit() {
+        let typed = |limit, asks| Request { limit, asks, ..request(Service::Srd, 7) };
+        for limit in [0, 2, 15, 16, 255] {
+            let (asking, own) = (typed(limit, true).filled(3), typed(limit, false).filled(3));
+            assert_eq!((asking.limit, asking.asks), (3, true));
+            assert_eq!((own.limit, own.asks), (limit, false));
+            assert_eq!(asking.refuse(2), Ok(()));
+            assert_eq!(own.refuse(2).is_err(), limit > 15);
+        }
+    }
+
+    /// A confirmation keeps reference, limit and flag, whatever the status.
+    #[test]
+    fn a_confirmation_keeps_what_is_the_callers() {
+        let mut queue = Queue::new(3);
+        let given = [(1, 0, false), (u32::MAX, 15, true), (0, 7, false)];
+        for (reference, limit, asks) in given {
+            assert!(queue.submit(Request { reference, limit, asks, ..request(Service::Sda, 7) }).is_ok());
+        }
+        queue.confirm(Status::Ok, 1, &[]);
+        queue.confirm(Status::Na, 16, &[]);
+        queue.confirm(Status::Ds, 0, &[]);
+        for kept in given {
+            let Confirmed { request, .. } = queue.collect().unwrap();
+            assert_eq!((request.reference, request.limit, request.asks), kept);
+        }
     }
 }

@@ -3,7 +3,7 @@
 
 use crate::cases::{Addresses, Call, Case, Count, Counts};
 use crate::cases::{NOBODY, PASS_CHECKED, PASS_TO_SELF, REPLY_AWAITED, SDN, SDN_GOING_OUT};
-use crate::queue::{Priority, Refusal, LONGEST_ROW};
+use crate::queue::{Priority, Refusal, Request, LONGEST_ROW};
 use crate::ring::{Ring, ADDRESSES};
 use crate::rows::{Record, DATA, RECORD, STATUSES, UNTOUCHED};
 use crate::station::LONGEST_UPDATE;
@@ -140,26 +140,36 @@ fn phase(case: &Case, grounds: &mut Vec<Ground>) {
     }
 }
 
-/// 23 to 26 for the request itself, then 27.
+/// 23 to 26 and 30 for the request itself, once the station's limit is filled in where it asks, then 27.
 fn submit(case: &Case, queue: Priority, grounds: &mut Vec<Ground>) {
-    let [service, destination, to, from] = case.request;
-    let record = Record::read(0, &[service, destination, to, from, 0, 0, 0]);
     let long = octets(case.data).min(DATA + 1);
-    grounds.extend(judge(&record, long, case.core.ts));
+    let request = Record::read(0, &case.request).request(vec![0; long]);
+    let filled = request.filled(case.core.settings.retry_limit);
+    grounds.extend(judge(&filled, case.core.ts).map(|number| (number, REQUEST_WORDS[place_of(number)])));
     let counts = case.core.counts(queue);
     add(grounds, in_use(counts) == counts.places.into(), 27, "every place in use");
 }
 
-/// What submit refuses in a record with so many octets of data.
-pub fn judge(record: &Record, data: usize, own: u8) -> Option<Ground> {
-    let number = record.request(vec![0; data]).refuse(own).err()?;
-    let words = match number {
-        23 => "destination",
-        24 => "access point",
-        25 => "service",
-        _ => "data and access points",
-    };
-    Some((number, words))
+/// What submit refuses in a request: the first of 23 to 26, and 30.
+pub fn judge(request: &Request, own: u8) -> impl Iterator<Item = Refusal> {
+    let refused = [request.refuse_fields(own), request.refuse_limit()];
+    refused.into_iter().filter_map(Result::err)
+}
+
+/// What 23 to 26 and 30 are given for, in a request and in an unconfirmed record.
+const REQUEST_WORDS: [&str; 5] =
+    ["destination", "access point", "service", "data and access points", "limit"];
+const RECORD_WORDS: [&str; 5] = [
+    "a record's destination",
+    "a record's access point",
+    "a record's service",
+    "a record's data and access points",
+    "a record's limit",
+];
+
+/// The place of 23 to 26 or 30 in their order.
+fn place_of(number: Refusal) -> usize {
+    usize::from(number.min(27) - 23)
 }
 
 /// 28, then 29 for the status of the record that would be handed back.
@@ -187,8 +197,8 @@ fn records(case: &Case, grounds: &mut Vec<Ground>) {
         let Counts { confirmed, unconfirmed, .. } = *case.core.counts(queue);
         let turns = (0..unconfirmed).map(|turn| confirmed.wrapping_add(turn));
         let unconfirmed = turns.filter_map(|turn| record_at(case, queue, turn));
-        let unfit = unconfirmed.filter_map(|record| judge(&record, record.length.into(), case.core.ts));
-        grounds.extend(unfit.map(|(number, _)| (29, RECORD_WORDS[usize::from(number) - 23])));
+        let unfit = unconfirmed.flat_map(|record| judge(&as_sent(&record), case.core.ts));
+        grounds.extend(unfit.map(|number| (29, RECORD_WORDS[place_of(number)])));
     }
     let Some(queue) = served(case) else { return };
     let Counts { confirmed, unconfirmed, .. } = *case.core.counts(queue);
@@ -200,18 +210,17 @@ fn records(case: &Case, grounds: &mut Vec<Ground>) {
     add(grounds, case.core.phase == SDN_GOING_OUT && other, 29, "no SDN going out");
 }
 
-/// An unconfirmed record that submit would refuse 23, 24, 25 or 26.
-const RECORD_WORDS: [&str; 4] = [
-    "a record's destination",
-    "a record's access point",
-    "a record's service",
-    "a record's data and access points",
-];
+/// The request that a record stands for, with data of the length that it states. Its limit is what it holds, whether it
+/// asked or not.
+pub fn as_sent(record: &Record) -> Request {
+    record.request(vec![0; record.length.into()])
+}
 
 #[cfg(test)]
 mod tests {
     use super::*;
     use crate::cases::{blank, Core, Lent, CALLS};
+    use crate::rows::{ASKS, LIMIT};
     use crate::times::STANDARD;
 
     /// A case in rule: TS 2 with 5 in the ring, rows of two places, an SDA to 7 in each, awaited in the high one.
@@ -223,10 +232,12 @@ mod tests {
         let counts = Counts { places: 2, first: 1, confirmed: 0, unconfirmed: 1 };
         let core = Core { settings: STANDARD, ts: 2, ps: 5, phase: REPLY_AWAITED, ..case.core };
         case.core = Core { high: counts.clone(), low: counts, ..core };
-        let records = [0, 0, 0, 0, 0, 0, 0, 3, 7, 255, 255, 246, 255, 0].to_vec();
-        case.high = Lent { records, row: Some(14), area: Some(492) };
+        let mut records = vec![0; RECORD];
+        records.extend([3, 7, 255, 255, 246, 255, 0, 1, 2, 3, 4, 15, 7]);
+        case.high = Lent { records, row: Some(26), area: Some(492) };
         case.low = case.high.clone();
-        (case.out, case.request, case.places) = (Some(255), [12, 7, 62, 62], [1, 64]);
+        case.request = [12, 7, 62, 62, 0, 0, 0, 255, 255, 255, 255, 15, 0];
+        (case.out, case.places) = (Some(255), [1, 64]);
         case
     }
 
@@ -249,14 +260,15 @@ mod tests {
     #[test]
     fn every_number_in_its_order() {
         let all: fn(&mut Case) = |case| {
-            (case.core.ps, case.high.row, case.out) = (127, Some(13), Some(254));
-            (case.request, case.data, case.core.high.confirmed) = ([12, 128, 255, 255], Some(247), 1);
+            (case.core.ps, case.high.row, case.out) = (127, Some(25), Some(254));
+            (case.request[1], case.request[LIMIT]) = (128, 16);
+            (case.data, case.core.high.confirmed) = (Some(247), 1);
         };
         let high = Priority::High;
         assert_eq!(answers(Call::Hear, all), [21, 22, 29]);
         assert_eq!(answers(Call::Reset, all), [21, 29]);
-        assert_eq!(answers(Call::Submit(high), all), [21, 29, 23, 27]);
-        assert_eq!(answers(Call::Submit(Priority::Low), all), [29, 23]);
+        assert_eq!(answers(Call::Submit(high), all), [21, 29, 23, 30, 27]);
+        assert_eq!(answers(Call::Submit(Priority::Low), all), [29, 23, 30]);
         assert_eq!(answers(Call::Collect(Priority::Low), all), [29, 28]);
         assert_eq!(answers(Call::Start, |case| (case.core.ts, case.places[1]) = (3, 0)), [20, 21]);
     }
@@ -269,6 +281,44 @@ mod tests {
             assert_eq!((answers(call, sdn), answers(call, long)), (vec![29], vec![29]));
         }
         assert_eq!((answers(Call::Reset, sdn), answers(Call::Reset, long)), (vec![], vec![]));
+    }
+
+    /// The limit of an unconfirmed record is a ground of 29, whether it asked or not; that of a confirmed one is none.
+    #[test]
+    fn limits_are_judged_by_hear_sent_and_slot() {
+        let over: fn(&mut Case) = |case| case.low.records[RECORD + LIMIT] = 16;
+        let asked: fn(&mut Case) = |case| case.high.records[RECORD + LIMIT] = 255;
+        let own: fn(&mut Case) = |case| {
+            (case.high.records[RECORD + LIMIT], case.high.records[RECORD + ASKS]) = (255, 0);
+        };
+        let confirmed: fn(&mut Case) = |case| {
+            case.low.records[RECORD + LIMIT] = 255;
+            (case.core.low.confirmed, case.core.low.unconfirmed) = (1, 0);
+        };
+        let free: fn(&mut Case) = |case| case.low.records[LIMIT] = 255;
+        for (call, _) in CALLS {
+            let judged = if call.is_turn() { vec![29] } else { answers(call, |_| {}) };
+            for change in [over, asked, own] {
+                assert_eq!(answers(call, change), judged, "{call:?}");
+            }
+            if call.is_turn() {
+                assert_eq!((answers(call, confirmed), answers(call, free)), (vec![], vec![]));
+            }
+        }
+    }
+
+    /// A request that asks has the station's limit, whatever it typed; one that does not is 30 over 15, SDN too.
+    #[test]
+    fn a_limit_is_filled_before_it_is_judged() {
+        let call = Call::Submit(Priority::Low);
+        assert_eq!(answers(call, |case| case.request[LIMIT] = 16), [30]);
+        assert_eq!(answers(call, |case| (case.request[LIMIT], case.request[ASKS]) = (255, 1)), []);
+        assert_eq!(answers(call, |case| (case.request[LIMIT], case.request[ASKS]) = (16, 200)), []);
+        assert_eq!(answers(call, |case| (case.request[0], case.request[LIMIT]) = (SDN, 255)), [30]);
+        let full: fn(&mut Case) = |case| (case.request[LIMIT], case.core.low.confirmed) = (16, 1);
+        assert_eq!(answers(call, full), [30, 27]);
+        let long: fn(&mut Case) = |case| (case.request[LIMIT], case.data) = (16, Some(245));
+        assert_eq!(answers(call, long), [26, 30]);
     }
 
     #[test]

@@ -111,8 +111,12 @@ fn say_indication(indication: &Indication) -> String {
 
 fn say_confirmed(confirmed: Confirmed) -> String {
     let request = &confirmed.request;
+    let reference = match request.reference {
+        0 => String::new(),
+        reference => format!(" ref {reference}"),
+    };
     format!(
-        "ok {} {} {} {} {} {} {} {}",
+        "ok {} {} {} {} {} {} {} {}{reference}",
         confirmed.place,
         service_word(request.service),
         request.destination,
@@ -295,6 +299,101 @@ mod tests {
         ]);
     }
 
+    /// Document 02's order 6 at a station with retry limit 1: own limits of 0, 2 and 1, and the station's.
+    #[test]
+    fn each_request_by_its_own_limit() {
+        check(&[
+            ("frame 100 0 - - DC0205", "ok send 75 DC0502"),
+            ("submit high srd 7 - - - limit 0", "ok"),
+            ("submit high srd 7 - - - ref 8 limit 2", "ok"),
+            ("submit low srd 7 - - - ref 4294967295 limit 1", "ok"),
+            ("submit low srd 7 - - - ref 0", "ok"),
+            ("frame 200 0 - - DC0205", "ok send 75 1007026D7616"),
+            ("slot 300", "ok send 75 1007026D7616"),
+            ("show", "ok awaited 2 5 5 2,5 1 1 0 2"),
+            ("slot 400", "ok send 75 1007026D7616"),
+            ("frame 500 0 - - E5E5", "ok send 75 1007026D7616"),
+            ("slot 600", "ok send 75 1007026C7516"),
+            ("show", "ok awaited 2 5 5 2,5 2 0 0 2"),
+            ("slot 700", "ok send 75 1007026C7516"),
+            ("slot 800", "ok send 75 1007026C7516"),
+            ("slot 900", "ok send 75 1007026C7516"),
+            ("slot 1000", "ok send 75 DC0502"),
+            ("collect high", "ok 0 srd 7 - - NA 1 -"),
+            ("collect high", "ok 1 srd 7 - - NA 3 - ref 8"),
+            ("collect low", "ok 0 srd 7 - - NA 2 - ref 4294967295"),
+            ("collect low", "ok 1 srd 7 - - NA 2 -"),
+        ]);
+    }
+
+    /// The reference comes back with every kind of confirmation; and a station without retries retries what says so.
+    #[test]
+    fn a_reference_comes_back() {
+        check(&[
+            ("start 20 0 20 400 1 10000 0 2 2,5 none 4 2", "ok"),
+            ("frame 100 0 - - DC0205", "ok send 75 DC0502"),
+            ("submit high sdn 127 - - - ref 1", "ok"),
+            ("submit high srd 7 - - - ref 2147483648 limit 1", "ok"),
+            ("submit high srd 7 - - - ref 3", "ok"),
+            ("submit low sda 7 - - 05 ref 4", "ok"),
+            ("submit low sda 7 - - 06 ref 5 limit 15", "ok"),
+            ("frame 200 0 - - DC0205", "ok send 75 107F0246C716"),
+            ("sent 300", "ok send 400 1007026D7616"),
+            ("slot 400", "ok send 75 1007026D7616"),
+            ("frame 500 0 - - 68040468020708AABB16", "ok send 75 1007025D6616"),
+            ("slot 600", "ok send 75 68040468070263057116"),
+            ("reset", "ok"),
+            ("collect high", "ok 0 sdn 127 - - OK 1 - ref 1"),
+            ("collect high", "ok 1 srd 7 - - DL 2 AA ref 2147483648"),
+            ("collect high", "ok 2 srd 7 - - NA 1 - ref 3"),
+            ("collect low", "ok 0 sda 7 - - DS 1 - ref 4"),
+            ("collect low", "ok 1 sda 7 - - DS 0 - ref 5"),
+        ]);
+    }
+
+    /// 30 in its place: behind 26, before 27, for SDN too; 15 is taken.
+    #[test]
+    fn a_limit_over_15_is_refused() {
+        let long = format!("submit high srd 7 - - {} limit 16", "00".repeat(247));
+        check(&[
+            ("submit high srd 128 - - - limit 16", "refused 23"),
+            ("submit high srd 7 64 - - limit 255", "refused 24"),
+            ("submit high ident 7 - - - limit 16", "refused 25"),
+            (&long, "refused 26"),
+            ("submit high srd 7 - - - limit 16", "refused 30"),
+            ("submit high sdn 127 - - - ref 1 limit 255", "refused 30"),
+            ("submit high sda 7 - - - limit 15", "ok"),
+            ("submit high sda 7 - - - limit 0015", "ok"),
+            ("submit high sda 7 - - -", "ok"),
+            ("submit high sda 7 - - - ref 1", "ok"),
+            ("submit high sda 7 - - - limit 16", "refused 30"),
+            ("submit high sda 7 - - - limit 15", "refused 27"),
+            ("submit high sda 7 - - -", "refused 27"),
+            ("submit low sda 7 - - - limit 255", "refused 30"),
+            ("show", "ok idle 2 5 5 2,5 0 4 0 0"),
+        ]);
+    }
+
+    #[test]
+    fn pairs_of_a_line() {
+        check(&[
+            ("start 20 0 20 400 1 10000 1 2 2 - 0 65 tsdi 65480", "refused 21"),
+            ("start 20 0 20 400 1 10000 1 2 2 - 0 65 tsdi 65481", "refused 20"),
+            ("start 20 0 20 400 1 10000 1 2 2 - 0 65 tsdi", "?"),
+            ("start 20 0 20 400 1 10000 1 2 2 - 0 65 tsdi 1 tsdi 1", "?"),
+            ("start 20 0 20 400 1 10000 1 2 2 - 0 65 gap 1", "?"),
+            ("start 20 0 20 400 1 10000 1 2 2 - 0 65 ref 1", "?"),
+            ("submit high srd 7 - - - ref", "?"),
+            ("submit high srd 7 - - - limit 1 ref 1", "?"),
+            ("submit high srd 7 - - - ref 1 ref 1", "?"),
+            ("submit high srd 7 - - - ref 4294967296", "?"),
+            ("submit high srd 7 - - - limit 256", "?"),
+            ("submit high srd 7 - - - tsdi 1", "?"),
+            ("collect high ref 1", "?"),
+            ("show", "ok idle 2 5 5 2,5 0 0 0 0"),
+        ]);
+    }
+
     #[test]
     fn lines_that_are_no_call() {
         let long = format!("frame 1 0 - - {}", "0".repeat(4083));
@@ -316,11 +415,6 @@ mod tests {
             ("start 20 0 20 400 1 10000 1 2 2 63 4 4", "?"),
             ("start 20 0 20 400 1 10000 1 2 - none 4 4", "refused 20"),
             ("start 20 0 20 400 1 10000 1 2 2 - 0 65", "refused 21"),
-            ("start 20 0 20 400 1 10000 1 2 2 - 0 65 tsdi 65480", "refused 21"),
-            ("start 20 0 20 400 1 10000 1 2 2 - 0 65 tsdi 65481", "refused 20"),
-            ("start 20 0 20 400 1 10000 1 2 2 - 0 65 tsdi", "?"),
-            ("start 20 0 20 400 1 10000 1 2 2 - 0 65 tsdi 1 tsdi 1", "?"),
-            ("start 20 0 20 400 1 10000 1 2 2 - 0 65 gap 1", "?"),
             (&long, "?"),
             (&longest, "ok"),
             ("  frame   0001 0 - -   ab ", "ok"),

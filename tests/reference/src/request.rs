@@ -3,7 +3,7 @@
 use crate::frame::{self, Head, Message, REQUEST};
 use crate::queue::{Priority, Request, Service, Status};
 use crate::station::{Exchange, Heard, Outcome, Phase, Sending, Station};
-use crate::transitions::{note, Transition};
+use crate::transitions::{note, note_each, Transition};
 
 /// A plausible reply: its status and where its data lie in the octets.
 type Plausible = (Status, std::ops::Range<usize>);
@@ -62,22 +62,51 @@ impl Station {
         &mut self.marks[usize::from(destination)]
     }
 
-    /// The same octets again up to the retry limit; then NA and the next choice.
+    /// The same octets again up to the request's own retry limit; then NA and the next choice.
     pub fn try_again(&mut self, mut exchange: Exchange, clock: u32) -> Sending {
-        if exchange.sendings > self.settings.retry_limit {
-            note(match exchange.sendings {
-                1 => Transition::NaWithoutRetry,
-                16 => Transition::NaAfterAllRetries,
-                _ => Transition::NaAfterRetries,
-            });
+        let limit = self.queue(exchange.priority).first().expect("the request being sent").limit;
+        if exchange.sendings > u32::from(limit) {
+            self.note_exhausted(&exchange);
             self.not_acknowledged(&exchange);
             return self.choose_after(clock, Transition::AwaitedNaNext, Transition::AwaitedNaPass);
         }
-        note(Transition::AwaitedRepeat);
+        self.note_repeat(&exchange);
         exchange.sendings += 1;
         let octets = exchange.octets.clone();
         self.phase = Phase::ReplyAwaited(exchange);
         Sending { wait: self.settings.tid1(), octets }
+    }
+
+    /// Counts an NA after the last try by how often it was sent, and by whose limit.
+    fn note_exhausted(&self, exchange: &Exchange) {
+        note(match exchange.sendings {
+            1 => Transition::NaWithoutRetry,
+            16 => Transition::NaAfterAllRetries,
+            _ => Transition::NaAfterRetries,
+        });
+        let request = self.queue(exchange.priority).first().expect("the request being sent");
+        if request.asks {
+            return note(Transition::NaFilled);
+        }
+        let (own, station) = (u32::from(request.limit), self.settings.retry_limit);
+        note_each(&[
+            (own < station, Transition::NaOwnBelow),
+            (own == station, Transition::NaOwnEqual),
+            (own > station, Transition::NaOwnAbove),
+            (own == 0 && station > 0, Transition::NaOwnNone),
+            (own != station && exchange.priority == Priority::Low, Transition::NaLowOwn),
+        ]);
+    }
+
+    /// Counts a repeat, and where the station's limit would not have allowed it.
+    fn note_repeat(&self, exchange: &Exchange) {
+        note(Transition::AwaitedRepeat);
+        let beyond = exchange.sendings > self.settings.retry_limit;
+        note_each(&[
+            (beyond && exchange.priority == Priority::High, Transition::RepeatBeyond),
+            (beyond && exchange.priority == Priority::Low, Transition::RepeatBeyondLow),
+            (self.settings.retry_limit == 0, Transition::RepeatStationNone),
+        ]);
     }
 
     /// SDN going out: "sent" confirms OK, and the next choice is made.

@@ -1,12 +1,20 @@
-//! A row of request records and its data area, as lent to the calls on them: a plain queue of document 01.
+//! A row of request records and its data area, as lent to the calls on them: a plain queue of document 01. What lies in
+//! a record's octets, tests/parts.h says.
 
 use std::collections::VecDeque;
 
 use crate::queue::{Refusal, Request, Service, LONGEST_ROW};
 
 /// The octets of a record, and those of a place's data.
-pub const RECORD: usize = 7;
+pub const RECORD: usize = 13;
 pub const DATA: usize = 246;
+
+/// Where in a record these lie; the reference has the four octets from its place on, the lowest first.
+pub const LENGTH: usize = 4;
+pub const STATUS: usize = 5;
+pub const REFERENCE: usize = 7;
+pub const LIMIT: usize = 11;
+pub const ASKS: usize = 12;
 
 /// The statuses that document 01 names for a confirmed record, by their octets (tests/parts.h).
 pub const STATUSES: [u8; 11] = [0, 1, 2, 3, 8, 9, 10, 12, 13, NOT_ANSWERED, DISCONNECTED];
@@ -35,10 +43,13 @@ pub struct Record {
     pub length: u8,
     pub status: u8,
     pub count: u8,
+    pub reference: u32,
+    pub limit: u8,
+    pub asks: bool,
 }
 
 impl Record {
-    /// The record that a place's octets hold, whatever they are.
+    /// The record that a place's octets hold, whatever they are. It asks if that octet is not 0.
     pub fn read(place: usize, octets: &[u8]) -> Record {
         let point = |octet: u8| (octet != NO_POINT).then_some(octet);
         Record {
@@ -47,10 +58,37 @@ impl Record {
             destination: octets[1],
             to: point(octets[2]),
             from: point(octets[3]),
-            length: octets[4],
-            status: octets[5],
+            length: octets[LENGTH],
+            status: octets[STATUS],
             count: octets[6],
+            reference: octets[REFERENCE..LIMIT]
+                .iter()
+                .rev()
+                .fold(0, |high, &octet| high << 8 | u32::from(octet)),
+            limit: octets[LIMIT],
+            asks: octets[ASKS] != 0,
         }
+    }
+
+    /// The octets that are written for it: whether it asks is 0 or 1.
+    fn octets(&self) -> [u8; RECORD] {
+        let point = |point: Option<u8>| point.unwrap_or(NO_POINT);
+        let [lowest, low, high, highest] = self.reference.to_le_bytes();
+        [
+            self.service,
+            self.destination,
+            point(self.to),
+            point(self.from),
+            self.length,
+            self.status,
+            self.count,
+            lowest,
+            low,
+            high,
+            highest,
+            self.limit,
+            self.asks.into(),
+        ]
     }
 
     /// The request that submit judges. Every service that it does not take is alike to it.
@@ -61,7 +99,16 @@ impl Record {
             12 => Service::Srd,
             _ => Service::LsapStatus,
         };
-        Request { service, destination: self.destination, to: self.to, from: self.from, data }
+        Request {
+            service,
+            destination: self.destination,
+            to: self.to,
+            from: self.from,
+            data,
+            reference: self.reference,
+            limit: self.limit,
+            asks: self.asks,
+        }
     }
 
     /// Whether submit would refuse this record for itself, by the length that it states.
@@ -104,9 +151,10 @@ impl Layout {
     }
 }
 
-/// A queue over its lent area; where its layout is refused it holds no records.
+/// A queue over its lent row and area; where its layout is refused it holds no records.
 pub struct Row {
     pub area: Vec<u8>,
+    pub octets: Vec<u8>,
     fit: Result<(), Refusal>,
     laid_out: (usize, usize, usize),
     own: u8,
@@ -128,6 +176,7 @@ impl Row {
         };
         Row {
             area: vec![UNTOUCHED; layout.area.min(LARGEST_AREA)],
+            octets: layout.records,
             fit,
             laid_out: (layout.first.into(), layout.confirmed.into(), layout.unconfirmed.into()),
             own: layout.own,
@@ -146,7 +195,8 @@ impl Row {
         }
     }
 
-    /// Takes the next place in turn, and gives its number. 21, 29, 23 to 27.
+    /// Takes the next place in turn, and gives its number. The limit is looked at and stored as it is given: it is the
+    /// station that fills it. 21, 29, 23 to 26, 30, 27.
     pub fn submit(&mut self, record: Record, data: &[u8]) -> Result<usize, Refusal> {
         self.fit?;
         record.request(data.to_vec()).refuse(self.own)?;
@@ -156,7 +206,9 @@ impl Row {
         }
         let place = (self.first + in_use) % self.places;
         let length = self.write(place, data);
-        self.unconfirmed.push_back(Record { place, length, status: WAITING, count: 0, ..record });
+        let record = Record { place, length, status: WAITING, count: 0, ..record };
+        self.put(&record);
+        self.unconfirmed.push_back(record);
         Ok(place)
     }
 
@@ -211,8 +263,15 @@ impl Row {
     fn confirm_first(&mut self, status: u8, count: u8, data: &[u8]) {
         if let Some(record) = self.unconfirmed.pop_front() {
             let length = self.write(record.place, data);
-            self.confirmed.push_back(Record { length, status, count, ..record });
+            let record = Record { length, status, count, ..record };
+            self.put(&record);
+            self.confirmed.push_back(record);
         }
+    }
+
+    /// Writes a record at its place of the row.
+    fn put(&mut self, record: &Record) {
+        self.octets[record.place * RECORD..][..RECORD].copy_from_slice(&record.octets());
     }
 
     /// Puts data, at most 246 octets, at the start of a place's part of the area, and gives their number.
@@ -243,9 +302,16 @@ mod tests {
         Status::Ds,
     ];
 
+    /// A record of these octets with the reference 0x04030201 and no retries, which asks for nothing.
+    fn rest(octets: [u8; REFERENCE]) -> [u8; RECORD] {
+        let mut record = [0, 0, 0, 0, 0, 0, 0, 1, 2, 3, 4, 0, 0];
+        record[..REFERENCE].copy_from_slice(&octets);
+        record
+    }
+
     /// A layout that fits, all of its records being SDA to 7 without data or access points, waiting.
     fn layout(places: u8, first: u8, confirmed: u8, unconfirmed: u8) -> Layout {
-        let records = [3, 7, 255, 255, 0, 255, 0].repeat(places.into());
+        let records = rest([3, 7, 255, 255, 0, 255, 0]).repeat(places.into());
         let area = usize::from(places) * DATA;
         Layout { own: OWN, places, first, confirmed, unconfirmed, records, area }
     }
@@ -259,7 +325,7 @@ mod tests {
 
     /// A record that submit takes; the length, status and count that it brings are not for submit.
     fn sda() -> Record {
-        Record::read(0, &[3, 7, 255, 255, 99, 98, 97])
+        Record::read(0, &rest([3, 7, 255, 255, 99, 98, 97]))
     }
 
     /// The answers of submit, confirm, drain, collect and the record check, 0 for none, each on a fresh row.
@@ -273,9 +339,9 @@ mod tests {
         ];
         calls.map(|call| {
             let mut row = Row::new(lay_out());
-            let (area, counts) = (row.area.clone(), row.counts());
+            let (area, octets, counts) = (row.area.clone(), row.octets.clone(), row.counts());
             let refusal = call(&mut row).err().unwrap_or(0);
-            let changed = row.area != area || row.counts() != counts;
+            let changed = row.area != area || row.octets != octets || row.counts() != counts;
             assert!(refusal == 0 || !changed, "refused {refusal}, yet changed");
             refusal
         })
@@ -323,7 +389,9 @@ mod tests {
         /// A request that is now and then refused for itself.
         fn submit(&mut self, random: &mut Random) {
             let service = random.pick(&[3, 4, 12, 12, 12, 9]);
-            let record = Record { service, destination: random.octet() / 2, length: random.octet(), ..sda() };
+            let (reference, limit) = (random.below(1 << 32) as u32, random.below(17) as u8);
+            let own = Record { reference, limit, asks: random.one_in(2), ..sda() };
+            let record = Record { service, destination: random.octet() / 2, length: random.octet(), ..own };
             let length = random.below(248);
             let data = random.octets(length);
             let request = record.request(data.clone());
@@ -381,6 +449,8 @@ mod tests {
                 (record.destination, record.to, record.from),
                 (expected.request.destination, None, None)
             );
+            let Request { reference, limit, asks, .. } = expected.request;
+            assert_eq!((record.reference, record.limit, record.asks), (reference, limit, asks));
             assert_eq!((usize::from(record.length), data), (data.len(), &expected.request.data[..]));
             assert_eq!(u32::from(record.count), expected.count);
             let named = STATUSES.iter().position(|&status| status == record.status).unwrap();
@@ -411,6 +481,7 @@ mod tests {
         odd(65, 65 * RECORD, 65 * DATA);
         odd(255, 255 * RECORD, 255 * DATA);
         odd(2, RECORD, 2 * DATA);
+        odd(2, 2 * 7, 2 * DATA);
         odd(2, 3 * RECORD, 2 * DATA);
         odd(2, 2 * RECORD - 1, 2 * DATA);
         odd(2, 2 * RECORD, DATA);
@@ -461,11 +532,39 @@ mod tests {
             ([3, 0, 255, 255], &long[..246], 27),
         ];
         for ([service, destination, to, from], data, refusal) in cases {
-            let record = Record::read(0, &[service, destination, to, from, 0, 0, 0]);
+            let record = Record::read(0, &rest([service, destination, to, from, 0, 0, 0]));
             assert_eq!(answers(|| layout(2, 1, 1, 1), record.clone(), data)[0], refusal);
             let free = if refusal == 27 { 0 } else { refusal };
-            assert_eq!(answers(|| layout(2, 1, 1, 0), record, data)[0], free);
+            assert_eq!(answers(|| layout(2, 1, 1, 0), record.clone(), data)[0], free);
+            // A limit over 15 is 30, behind 26 and before 27, whether the request asks or not: nothing is filled here.
+            for (limit, asks) in [(16, false), (255, true)] {
+                let over = Record { limit, asks, ..record.clone() };
+                let first = if refusal == 27 { 30 } else { refusal };
+                assert_eq!(answers(|| layout(2, 1, 1, 1), over.clone(), data)[0], first);
+                assert_eq!(answers(|| layout(2, 1, 1, 0), over, data)[0], first);
+            }
+            let most = Record { limit: 15, asks: true, ..record };
+            assert_eq!(answers(|| layout(2, 1, 1, 1), most, data)[0], refusal);
         }
+    }
+
+    /// What submit and a confirmation write: thirteen octets of one place, and whether it asks as 0 or 1.
+    #[test]
+    fn a_record_as_it_lies() {
+        let mut row = Row::new(one(false, [12, 9, 60, 255, 3, 255, 0, 9, 8, 7, 6, 5, 7]));
+        let given = Record { reference: 0xFFFF_FE01, limit: 15, asks: true, ..sda() };
+        assert_eq!(row.submit(given, &[5, 6]).ok(), Some(0));
+        assert_eq!(row.octets[..RECORD], [3, 7, 255, 255, 2, 255, 0, 0x01, 0xFE, 0xFF, 0xFF, 15, 1]);
+        assert_eq!(row.octets[RECORD..], [12, 9, 60, 255, 3, 255, 0, 9, 8, 7, 6, 5, 7]);
+        assert_eq!(row.confirm(10, 6, &[1]), Ok(()));
+        assert_eq!(row.octets[RECORD..], [12, 9, 60, 255, 1, 10, 6, 9, 8, 7, 6, 5, 1]);
+        assert_eq!(row.octets[..RECORD], [3, 7, 255, 255, 2, 255, 0, 0x01, 0xFE, 0xFF, 0xFF, 15, 1]);
+        assert_eq!(row.drain(0), Ok(()));
+        assert_eq!(row.octets[..RECORD], [3, 7, 255, 255, 0, 17, 0, 0x01, 0xFE, 0xFF, 0xFF, 15, 1]);
+        let octets = row.octets.clone();
+        let (record, _) = row.collect().ok().unwrap();
+        assert_eq!((record.reference, record.limit, record.asks), (0x0607_0809, 5, true));
+        assert_eq!(row.octets, octets);
     }
 
     #[test]
@@ -517,18 +616,19 @@ mod tests {
         assert_eq!(answers(|| layout(2, 1, 0, 2), sda(), &[])[3], 28);
         for status in 0..=255 {
             let named = matches!(status, 0..=3 | 8..=10 | 12 | 13 | 16 | 17);
-            let lay_out = || one(true, [9, 200, 64, 255, 250, status, 77]);
+            let lay_out = || one(true, rest([9, 200, 64, 255, 250, status, 77]));
             assert_eq!(answers(lay_out, sda(), &[])[3], if named { 0 } else { 29 });
         }
     }
 
     #[test]
     fn collect_hands_back_any_octets() {
-        let mut row = Row::new(one(true, [9, 200, 64, 255, 250, 12, 77]));
+        let mut row = Row::new(one(true, [9, 200, 64, 255, 250, 12, 77, 255, 0, 0, 128, 200, 7]));
         let (record, data) = row.collect().ok().unwrap();
         assert_eq!((record.place, record.service, record.destination), (1, 9, 200));
         assert_eq!((record.to, record.from), (Some(64), None));
         assert_eq!((record.length, record.status, record.count), (250, 12, 77));
+        assert_eq!((record.reference, record.limit, record.asks), (0x8000_00FF, 200, true));
         assert_eq!(data, [0xAA; DATA]);
         assert_eq!(row.counts(), (0, 0, 0));
     }
@@ -553,8 +653,22 @@ mod tests {
             ([3, 7, 255, 255, 255, 255, 0], 29),
         ];
         for (octets, refusal) in cases {
+            let octets = rest(octets);
             assert_eq!(answers(|| one(false, octets), sda(), &[]), [0, 0, 0, 28, refusal]);
             assert_eq!(Row::new(one(true, octets)).sound(), Ok(()));
+        }
+    }
+
+    /// The limit of an unconfirmed record is looked at whether it asks or not, that of a confirmed one never.
+    #[test]
+    fn the_record_check_reads_the_limit() {
+        for limit in 0..=255 {
+            for (service, asks) in [(3, 0), (4, 1), (12, 7)] {
+                let octets = [service, 7, 255, 255, 0, 255, 0, 255, 255, 255, 255, limit, asks];
+                let refusal = if limit > 15 { 29 } else { 0 };
+                assert_eq!(answers(|| one(false, octets), sda(), &[]), [0, 0, 0, 28, refusal]);
+                assert_eq!(Row::new(one(true, octets)).sound(), Ok(()));
+            }
         }
     }
 

@@ -148,11 +148,11 @@ impl Run {
     /// A submit; to a full queue only now and then.
     fn submit(&mut self) -> Option<String> {
         let priority = self.random.pick(&[Priority::High, Priority::Low]);
-        let own = self.station().address;
+        let (own, retries) = (self.station().address, self.station().settings.retry_limit);
         if self.station().queue(priority).is_full() && !self.random.one_in(8) {
             return None;
         }
-        let operands = submits::operands(&mut self.random, &self.life.peers, own);
+        let operands = submits::operands(&mut self.random, &self.life.peers, own, retries);
         Some(format!("submit {} {operands}", priority_word(priority)))
     }
 
@@ -313,5 +313,43 @@ mod tests {
                 watch(&mut waiting, station, word == "submit", holds);
             }
         }
+    }
+
+    /// What a submit line says of its own: the reference, and the limit if it names one.
+    fn said(line: &str) -> (u32, Option<u32>) {
+        let words: Vec<&str> = line.split_whitespace().collect();
+        let behind = |name: &str| {
+            let at = words.iter().position(|&word| word == name)?;
+            words[at + 1].parse().ok()
+        };
+        (behind("ref").unwrap_or(0), behind("limit"))
+    }
+
+    /// Document 02's order 6 on the reference itself: requests are confirmed in turn, so each that is collected is the
+    /// oldest that was submitted. It has the reference that was said, and was sent at most its own limit and once.
+    #[test]
+    fn each_confirmation_is_of_its_own_request() {
+        let mut replay = Replay::default();
+        let mut taken = [VecDeque::new(), VecDeque::new()];
+        let mut beyond = 0;
+        for line in runs(4, 50_000) {
+            let answer = replay.answer(line.as_bytes()).unwrap_or_default();
+            let words: Vec<&str> = line.split_whitespace().collect();
+            let queue = usize::from(words.get(1) == Some(&"low"));
+            match (words.first(), answer.strip_prefix("ok")) {
+                (Some(&"start"), Some("")) => taken = [VecDeque::new(), VecDeque::new()],
+                (Some(&"submit"), Some("")) => taken[queue].push_back(said(&line)),
+                (Some(&"collect"), Some(answer)) => {
+                    let (reference, limit) = taken[queue].pop_front().unwrap();
+                    let station = replay.station.as_ref().unwrap().settings.retry_limit;
+                    let count: u32 = answer.split(' ').nth(7).unwrap().parse().unwrap();
+                    assert_eq!(said(answer).0, reference, "{line}");
+                    assert!(count <= limit.unwrap_or(station) + 1, "{line}");
+                    beyond += usize::from(count > station + 1);
+                }
+                _ => {}
+            }
+        }
+        assert!(beyond > 0);
     }
 }

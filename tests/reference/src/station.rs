@@ -1,13 +1,15 @@
-//! The station of document 01, section "Station": its state, its start and its calls.
+//! The station of document 01, section "Station", with document 02's order 6: its state, its start and its calls.
 //! What a phase does with a call stands in hold, request, pass and answering.
 
 use std::collections::BTreeSet;
 
 use crate::frame::{self, Message, ALL_STATIONS, REQUEST};
-use crate::queue::{Confirmed, Priority, Queue, Refusal, Request, Service, Status, LONGEST_ROW};
+use crate::queue::{
+    Confirmed, Priority, Queue, Refusal, Request, Service, Status, LONGEST_ROW, MOST_RETRIES,
+};
 use crate::ring::Ring;
 use crate::times::Settings;
-use crate::transitions::{note, Transition};
+use crate::transitions::{note, note_each, Transition};
 
 pub const LONGEST_UPDATE: usize = 244;
 
@@ -158,18 +160,21 @@ impl Station {
         }
     }
 
+    /// Fills in the station's limit where the request asks for it, then looks.
     pub fn submit(&mut self, priority: Priority, request: Request) -> Result<(), Refusal> {
-        request.refuse(self.address)?;
+        let request = request.filled(self.settings.retry_limit);
+        let refused = request.refuse(self.address);
+        self.note_limit(priority, &request, refused.err());
+        refused?;
         self.queue_mut(priority).submit(request)
     }
 
     pub fn collect(&mut self, priority: Priority) -> Result<Confirmed, Refusal> {
         let collected = self.queue_mut(priority).collect();
-        note(match &collected {
-            Err(_) => Transition::CollectRefused,
-            Ok(confirmed) if confirmed.request.data.is_empty() => Transition::CollectWithoutData,
-            Ok(_) => Transition::CollectWithData,
-        });
+        match &collected {
+            Err(_) => note(Transition::CollectRefused),
+            Ok(confirmed) => note_collected(&confirmed.request),
+        }
         collected
     }
 
@@ -251,10 +256,18 @@ impl Station {
 
     /// Confirms the first unconfirmed request of a queue.
     pub fn confirm(&mut self, priority: Priority, status: Status, count: u32, data: &[u8]) {
-        let service = self.queue(priority).first().expect("a request is unconfirmed").service;
-        note(Transition::confirmed(service, status));
+        let request = self.queue(priority).first().expect("a request is unconfirmed");
+        note(Transition::confirmed(request.service, status));
         if status == Status::Ds {
             note(if count == 0 { Transition::DsNeverSent } else { Transition::DsSent });
+        }
+        if request.reference != 0 {
+            note(match (request.service, status) {
+                (_, Status::Na) => Transition::ReferenceNa,
+                (_, Status::Ds) => Transition::ReferenceDs,
+                (Service::Sdn, _) => Transition::ReferenceSdn,
+                _ => Transition::ReferenceReply,
+            });
         }
         self.queue_mut(priority).confirm(status, count, data);
     }
@@ -280,6 +293,25 @@ impl Station {
         Outcome::nothing()
     }
 
+    /// Counts what a submitted request's limit is against the station's, or which refusal came before 30 or 27.
+    fn note_limit(&self, priority: Priority, request: &Request, refused: Option<Refusal>) {
+        let (own, over) = (u32::from(request.limit), request.limit > MOST_RETRIES);
+        let accepted = refused.is_none() && !self.queue(priority).is_full();
+        let (has_own, station) = (accepted && !request.asks, self.settings.retry_limit);
+        note_each(&[
+            (refused == Some(23) && over, Transition::SubmitRefused23Limit),
+            (refused == Some(24) && over, Transition::SubmitRefused24Limit),
+            (refused == Some(25) && over, Transition::SubmitRefused25Limit),
+            (refused == Some(26) && over, Transition::SubmitRefused26Limit),
+            (refused == Some(30) && self.queue(priority).is_full(), Transition::SubmitRefusedLimitFull),
+            (accepted && request.asks, Transition::SubmitFilled),
+            (has_own && own < station, Transition::SubmitLimitBelow),
+            (has_own && own == station, Transition::SubmitLimitEqual),
+            (has_own && own > station, Transition::SubmitLimitAbove),
+            (has_own && request.limit == MOST_RETRIES, Transition::SubmitLimitMost),
+        ]);
+    }
+
     /// Counts what a reset found.
     fn note_reset(&self) {
         note(match self.phase {
@@ -289,15 +321,27 @@ impl Station {
             Phase::PassChecked(_) => Transition::ResetCheck,
             Phase::PassToSelf => Transition::ResetSelf,
         });
-        let found = [
+        note_each(&[
             (self.ring != self.ring_as_started, Transition::ResetRing),
             (self.previous != self.ring_as_started.previous(self.address), Transition::ResetPrevious),
             (self.first_token.is_some(), Transition::ResetFirstToken),
             (self.memory.is_some(), Transition::ResetMemory),
             (self.marks.iter().any(Option::is_some), Transition::ResetMarks),
-        ];
-        found.iter().filter(|(is_so, _)| *is_so).for_each(|(_, transition)| note(*transition));
+        ]);
     }
+}
+
+/// Counts what collect hands back.
+fn note_collected(request: &Request) {
+    let (with_data, with_reference) = (!request.data.is_empty(), request.reference != 0);
+    note_each(&[
+        (with_data, Transition::CollectWithData),
+        (!with_data, Transition::CollectWithoutData),
+        (with_reference, Transition::CollectReference),
+        (!with_reference, Transition::CollectNoReference),
+        (with_reference && with_data, Transition::CollectReferenceData),
+        (request.reference == u32::MAX, Transition::CollectReferenceMost),
+    ]);
 }
 
 /// Start's refusals 20 and 21.

@@ -1,4 +1,4 @@
-//! Seeded requests for `submit`, one in eight with something that may be refused.
+//! Seeded requests for `submit`, one in eight with something that may be refused, and the pairs behind them.
 
 use crate::draft::data_count;
 use crate::frame::ALL_STATIONS;
@@ -7,14 +7,43 @@ use crate::random::Random;
 use crate::replay::service_word;
 use crate::text::{hex, optional};
 
-/// The operands of a `submit` after the queue, for a station of address `own`.
-pub fn operands(random: &mut Random, peers: &[u8], own: u8) -> String {
+/// The operands of a `submit` after the queue, for a station of address `own` with this retry limit.
+pub fn operands(random: &mut Random, peers: &[u8], own: u8, retries: u32) -> String {
     let mut request = request(random, peers);
     if random.one_in(8) {
         random.pick(&FAULTS)(&mut request, random, own);
     }
     let (to, from, data) = (optional(request.to), optional(request.from), hex(&request.data));
-    format!("{} {} {to} {from} {data}", service_word(request.service), request.destination)
+    let pairs = pairs(random, retries);
+    format!("{} {} {to} {from} {data}{pairs}", service_word(request.service), request.destination)
+}
+
+/// The pairs of a line, in each of the four forms.
+fn pairs(random: &mut Random, retries: u32) -> String {
+    let mut text = String::new();
+    if random.one_in(2) {
+        text += &format!(" ref {}", reference(random));
+    }
+    if random.one_in(2) {
+        text += &format!(" limit {}", limit(random, retries));
+    }
+    text
+}
+
+fn reference(random: &mut Random) -> u32 {
+    let any = random.below(1 << 32) as u32;
+    random.pick(&[0, 1, 1 << 31, u32::MAX, any, any >> 16])
+}
+
+/// A limit, mostly small, below, at or above the station's; one in twelve is at the bound or past it.
+fn limit(random: &mut Random, retries: u32) -> u32 {
+    let any = random.below(16) as u32;
+    match random.below(12) {
+        0 => random.pick(&[15, 16, 16, 17, 255]),
+        1..=3 => random.pick(&[retries.saturating_sub(1), retries, (retries + 1).min(15)]),
+        4 => any,
+        _ => random.pick(&[0, 0, 1, 2, 3]),
+    }
 }
 
 /// A request that is refused at most 27, or 23 if a peer has the station's own address.
@@ -26,7 +55,8 @@ fn request(random: &mut Random, peers: &[u8]) -> Request {
     let (to, from) = (point(random), point(random));
     let most = if random.one_in(12) { 244 } else { 5 };
     let count = data_count(random, most);
-    Request { service, destination, to, from, data: random.octets(count) }
+    let data = random.octets(count);
+    Request { service, destination, to, from, data, reference: 0, limit: 0, asks: true }
 }
 
 /// What submit may refuse, each in one way or just not.

@@ -21,6 +21,11 @@ transitions! {
     LineWords: "line: too few or too many words",
     LineOperand: "line: a word that does not fit its place",
     LinePair: "line: a pair out of order, twice, unknown or without a value",
+    LineSubmitPlain: "line: submit without a pair",
+    LineSubmitRef: "line: submit with ref alone",
+    LineSubmitLimit: "line: submit with limit alone",
+    LineSubmitBoth: "line: submit with ref and limit",
+    LineSubmitRef0: "line: submit with ref 0",
     LineBeforeStart: "line: a call before the first start",
     LineShow: "line: show",
 
@@ -39,13 +44,29 @@ transitions! {
     SubmitRefusedLastPoint: "submit: refused 24, point 63 not for SDN",
     SubmitRefusedService: "submit: refused 25",
     SubmitRefusedLength: "submit: refused 26",
+    SubmitRefusedLimit: "submit: refused 30",
+    SubmitRefusedLimitSdn: "submit: refused 30, SDN",
+    SubmitRefusedLimitFull: "submit: refused 30 although every place is in use",
+    SubmitRefused23Limit: "submit: refused 23 although the limit is over 15",
+    SubmitRefused24Limit: "submit: refused 24 although the limit is over 15",
+    SubmitRefused25Limit: "submit: refused 25 although the limit is over 15",
+    SubmitRefused26Limit: "submit: refused 26 although the limit is over 15",
     SubmitRefusedFull: "submit: refused 27",
     SubmitRefusedFull64: "submit: refused 27 with 64 places",
     SubmitPlace: "submit: accepted",
     SubmitLastPlace: "submit: accepted at the last place of the row",
+    SubmitFilled: "submit: accepted, the station's limit filled in",
+    SubmitLimitBelow: "submit: accepted with an own limit below the station's",
+    SubmitLimitEqual: "submit: accepted with an own limit equal to the station's",
+    SubmitLimitAbove: "submit: accepted with an own limit above the station's",
+    SubmitLimitMost: "submit: accepted with an own limit of 15",
     CollectRefused: "collect: refused 28",
     CollectWithData: "collect: with data",
     CollectWithoutData: "collect: without data",
+    CollectReference: "collect: with a reference",
+    CollectReferenceData: "collect: with a reference and data",
+    CollectReferenceMost: "collect: with the greatest reference",
+    CollectNoReference: "collect: without a reference",
 
     IdleTokenFromPs: "idle: token from PS begins a hold",
     IdlePsBetween: "idle: token from PS begins a hold and breaks a pair",
@@ -107,6 +128,15 @@ transitions! {
     NaWithoutRetry: "awaited: NA at retry limit 0",
     NaAfterRetries: "awaited: NA after retries",
     NaAfterAllRetries: "awaited: NA after 15 retries",
+    NaFilled: "awaited: NA after the station's limit, which was asked for",
+    NaOwnBelow: "awaited: NA after an own limit below the station's",
+    NaOwnEqual: "awaited: NA after an own limit equal to the station's",
+    NaOwnAbove: "awaited: NA after an own limit above the station's",
+    NaOwnNone: "awaited: NA at once by an own limit of 0, at a station with retries",
+    NaLowOwn: "awaited: NA of a low request after an own limit other than the station's",
+    RepeatBeyond: "awaited: same octets of a high request again beyond the station's limit",
+    RepeatBeyondLow: "awaited: same octets of a low request again beyond the station's limit",
+    RepeatStationNone: "awaited: same octets again by an own limit, at a station without retries",
     AwaitedNaNext: "awaited: NA and next request sent",
     AwaitedNaPass: "awaited: NA and token passed",
     AwaitedRequest: "awaited: request frame, NA, Idle",
@@ -189,6 +219,10 @@ transitions! {
     SrdRdh: "confirmed: SRD RDH",
     SrdNa: "confirmed: SRD NA",
     SrdDs: "confirmed: SRD DS",
+    ReferenceReply: "confirmed: by a reply, with a reference",
+    ReferenceSdn: "confirmed: SDN OK, with a reference",
+    ReferenceNa: "confirmed: NA, with a reference",
+    ReferenceDs: "confirmed: DS, with a reference",
     DsNeverSent: "confirmed: DS, never sent",
     DsSent: "confirmed: DS, sent before",
 
@@ -211,6 +245,11 @@ thread_local! {
 /// Counts a transition.
 pub fn note(transition: Transition) {
     COUNTS.with_borrow_mut(|counts| counts[transition as usize] += 1);
+}
+
+/// Counts each transition that is so.
+pub fn note_each(found: &[(bool, Transition)]) {
+    found.iter().filter(|(is_so, _)| *is_so).for_each(|(_, transition)| note(*transition));
 }
 
 /// How many holds began.
