@@ -1,6 +1,6 @@
 -- Document 01, "Requests": "the same octets again, up to the retry limit", by the history: how often a request was sent
--- before. Document 02, order 6: what becomes of requests with limits of their own. And order 8, "No retries unless asked": what becomes of a request that is lost with the standard
--- settings. Assumes nothing.
+-- before. And document 02: order 8, "No retries unless asked", what becomes of a request that is lost with the standard
+-- settings, and order 6, what becomes of requests with limits of their own. Assumes nothing.
 use Prim.Native.Nat.{ℕ, _+_}
 use mathlib.Core.Bool.{true, false}
 use mathlib.Core.List.{List, [], _∷_}

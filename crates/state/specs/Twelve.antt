@@ -231,7 +231,7 @@ toSevenWith reference limit asks status count =
       asks = asks;
     }
 
--- one that asks for it, and the limit
+-- one that asks for it, with the limit that it has
 abbrev pub toSeven : ℕ → ℕ → ℕ → Record
 toSeven limit status count = toSevenWith 0 limit true status count
 
