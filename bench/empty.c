@@ -17,7 +17,6 @@ struct two cihlomet_short(void) { return (struct two){0, 0}; }
 EMPTY(cihlomet_list)
 EMPTY(cihlomet_read)
 EMPTY(cihlomet_start)
-EMPTY(cihlomet_listen)
 EMPTY(cihlomet_submit_high)
 EMPTY(cihlomet_submit_low)
 EMPTY(cihlomet_collect_high)

@@ -1,8 +1,8 @@
-/* station right|any: makes each call of the library once, but cihlomet_standard and cihlomet_tto, which hand out
- * numbers: between two marks for the plugin (bench/count.c) and on a painted stack, and prints a line for each:
- * operation, octets or places, and the octets of stack that were touched. A capture comes on standard input. By `right`
- * the first call that answers wrong ends the program. By `any` it is linked with bench/empty.c in place of the library,
- * and the figures are those of the caller alone. */
+/* station right|any: makes each call of the library once, but cihlomet_standard, which hands out seven numbers: between
+ * two marks for the plugin (bench/count.c) and on a painted stack, and prints a line for each: operation, octets or
+ * places, and the octets of stack that were touched. A capture comes on standard input. By `right` the first call that
+ * answers wrong ends the program. By `any` it is linked with bench/empty.c in place of the library, and the figures are
+ * those of the caller alone. */
 #include "../include/cihlomet.h"
 #include <stdio.h>
 #include <stdlib.h>
@@ -11,7 +11,7 @@
 
 enum { MARK = 5000 }; /* no system call: bench/count.c knows it */
 enum { MOST_PLACES = 64, STACK = 65536, PAINT = 0xA7, MOST_CAPTURE = 2 + 4096 * (5 + 255) };
-enum { TS = 2, NS = 7, MIDDLE = 12, PS = 20, POINT = 60, OTHER_POINT = 62 };
+enum { TS = 2, NS = 7, PS = 20, POINT = 60, OTHER_POINT = 62 };
 enum { SRD_HIGH_FIRST = 0x6D, SRD_HIGH_AGAIN = 0x7D, FDL_STATUS = 0x49, REPLY_DL = 0x08 };
 enum { SD1_COUNT = 6, SD2_WITHOUT_DATA = 11, ASKED = 4, UPDATE = 8 };
 
@@ -67,8 +67,6 @@ MEASURED(collect, collected = cihlomet_collect_high(CIHLOMET_STATION(&station), 
 MEASURED(collect_low, collected = cihlomet_collect_low(CIHLOMET_STATION(&station), ROWS(low)))
 MEASURED(start, renewed = cihlomet_start(settings, TS, station.masters, station.started, station.marks,
                                          station.points, station.memory, places, places))
-MEASURED(start_listening, renewed = cihlomet_listen(settings, TS, station.masters, station.started, station.marks,
-                                                    station.points, station.memory, places, places))
 MEASURED(reset, renewed = cihlomet_reset(CIHLOMET_STATION(&station), ROWS(high), ROWS(low)))
 MEASURED(read_frame, frame = cihlomet_read(octets, octet_count))
 MEASURED(write_frame, written = cihlomet_write(NS, to, TS, from, SRD_HIGH_FIRST, data, data_count, OUT))
@@ -115,40 +113,6 @@ static void idle(void)
                              station.memory, places, places);
     station.core = renewed.core;
     clock_now = 1000;
-}
-
-/* A station that listens, with empty rows. */
-static void listening(void)
-{
-    memset(&station, 0, sizeof station);
-    memset(station.points, 1, sizeof station.points);
-    renewed = cihlomet_listen(settings, TS, station.masters, station.started, station.marks, station.points,
-                              station.memory, places, places);
-    station.core = renewed.core;
-    clock_now = 1000;
-}
-
-/* It listens to so many tokens of a ring of three, and the next one is coming. */
-static void listened_to(size_t tokens)
-{
-    static const uint8_t ring[] = {NS, MIDDLE, PS};
-    listening();
-    for (size_t i = 0; i <= tokens; i++) {
-        if (i > 0)
-            step();
-        hear_token(ring[(i + 1) % sizeof ring], ring[i % sizeof ring]);
-    }
-}
-
-/* The first token of the second rotation, which is compared with the first, and the one that completes the list. */
-static void second_rotation(void) { listened_to(3); }
-static void list_completes(void) { listened_to(6); }
-
-/* With a request waiting, on a bus that is quiet. */
-static void bus_quiet(void)
-{
-    listening();
-    submit_to(1, CIHLOMET_SRD, 1);
 }
 
 /* In Idle, one hold over, so that in the next there is time. */
@@ -339,9 +303,6 @@ static int passes(void) { return sends(3) && answer.core.phase == CIHLOMET_PASS_
 static int ends(void) { return passes() && answer.core.high_confirmed == 1; }
 static int removes(void) { return passes() && station.masters[NS] == 0; }
 static int keeps(void) { return sends(3) && answer.core.phase == CIHLOMET_PASS_TO_SELF; }
-static int learns(void) { return sends(0) && answer.core.phase == CIHLOMET_LISTENING; }
-static int completes(void) { return sends(0) && answer.core.phase == CIHLOMET_READY; }
-static int claims(void) { return asks() && station.masters[TS] == 1 && answer.core.begun == 1; }
 static int is_quiet(void) { return sends(0); }
 static int accepts(void) { return accepted.refused == 0; }
 static int is_full(void) { return accepted.refused == 27; }
@@ -368,14 +329,11 @@ static const struct station_call {
     {"hear SC: pass the token", acknowledged, hear, ends, 0},
     {"hear SC: pass to self", acknowledged_alone, hear, keeps, 0},
     {"hear token: high request", token_comes, hear, asks, 0},
-    {"hear token while listening", second_rotation, hear, learns, 0},
-    {"hear token: list complete", list_completes, hear, completes, 0},
     {"hear bad frame: repeat", replied_badly, hear, asks_again, 0},
     {"slot: repeat", replied, slot, asks_again, 0},
     {"slot: NA, next request", lost, slot, asks_next, 0},
     {"slot: remove NS, pass", pass_lost, slot, removes, 0},
     {"slot in Idle", idle, slot, is_quiet, 0},
-    {"slot: claim, request", bus_quiet, slot, claims, 0},
     {"sent SDN: next request", sdn_gone, sent, asks_next, 0},
     {"sent to self: pass to self", pass_to_self, sent, keeps, 0},
     {"sent in Idle", idle, sent, is_quiet, 0},
@@ -389,7 +347,6 @@ static const struct station_call {
     {"collect low, 4 queued", four_confirmed_low, collect_low, hands_back, 0},
     {"collect, pass to self", pass_to_self, collect, has_none, 0},
     {"start", idle, start, renews, 0},
-    {"listen", idle, start_listening, renews, 0},
     {"reset, none queued", idle, reset, renews, 0},
     {"reset, 4 queued", four_waiting, reset, renews, 0},
     {"reset, 4, pass to self", pass_to_self_four, reset, renews, 0},

@@ -77,17 +77,6 @@ static void start(uint8_t ts)
         putchar('\n');
 }
 
-/* Starts station 2 with the same settings and access points, but by listening: nobody names its masters. */
-static void start_listening(void)
-{
-    struct cihlomet_settings settings = cihlomet_standard();
-    settings.retries = 1;
-    struct cihlomet_renewed answer = cihlomet_listen(settings, 2, station.masters, station.started, station.marks,
-                                                     station.points, station.memory, PLACES, PLACES);
-    if (accepted(answer.refused, &answer.core))
-        putchar('\n');
-}
-
 /* Submits a request to the high queue; answer.place is the place that it takes. The data are copied there. Its
  * reference comes back with its confirmation; it asks for the station's retry limit. */
 static void submit_high(uint8_t service, uint8_t destination, uint8_t to, uint8_t from, uint32_t reference,
@@ -120,8 +109,6 @@ static void take(const struct cihlomet_answer *answer, const uint8_t *heard)
     }
     if (answer->indication.indicated != 0)
         say_indication(&answer->indication, heard);
-    if (answer->stopped != 0)
-        printf(" stopped");
     putchar('\n');
 }
 
@@ -141,7 +128,7 @@ static void sent(uint32_t clock)
     take(&answer, NULL);
 }
 
-/* The slot time expired; of a station outside its ring, TTO. */
+/* The slot time expired. */
 static void slot(uint32_t clock)
 {
     struct cihlomet_answer answer = cihlomet_slot(CIHLOMET_STATION(&station), clock, HIGH, LOW, OUT);
@@ -178,7 +165,7 @@ static void collect_low(void)
         say_collected(&answer, low_data);
 }
 
-/* Confirms all unconfirmed requests DS and goes Idle, with the set of masters as started; or listens afresh. */
+/* Confirms all unconfirmed requests DS and goes Idle, with the set of masters as started. */
 static void reset(void)
 {
     struct cihlomet_renewed answer = cihlomet_reset(CIHLOMET_STATION(&station), HIGH, LOW);
@@ -199,19 +186,14 @@ static unsigned next_master(void)
 /* No call: the core and the set of masters may be looked at between calls. */
 static void show(void)
 {
-    static const char *const phases[] = {"idle", "awaited", "sdn", "check", "self", "listen", "ready", "stopped"};
+    static const char *const phases[] = {"idle", "awaited", "sdn", "check", "self"};
     const struct cihlomet_core *core = &station.core;
     const char *before = " ";
-    printf("ok %s %u", phases[core->phase], core->ts);
-    if (core->phase == CIHLOMET_LISTENING || core->phase == CIHLOMET_STOPPED) {
-        printf(" - - -");
-    } else {
-        printf(" %u %u", core->ps, next_master());
-        for (unsigned address = 0; address < CIHLOMET_ADDRESSES; address++) {
-            if (station.masters[address] == 1) {
-                printf("%s%u", before, address);
-                before = ",";
-            }
+    printf("ok %s %u %u %u", phases[core->phase], core->ts, core->ps, next_master());
+    for (unsigned address = 0; address < CIHLOMET_ADDRESSES; address++) {
+        if (station.masters[address] == 1) {
+            printf("%s%u", before, address);
+            before = ",";
         }
     }
     printf(" %u %u %u %u\n", core->high_confirmed, core->high_unconfirmed, core->low_confirmed, core->low_unconfirmed);
@@ -223,7 +205,6 @@ static void station_calls(void)
     static const uint8_t token[] = {0xDC, 0x02, 0x05}, update[] = {0xAA, 0xBB}, nine = 9, one = 1;
     static const uint8_t question[] = {0x68, 6, 6, 0x68, 0x82, 0x85, 0x5D, 60, 62, 7, 0xE5, 0x16};
     static const uint8_t reply[] = {0x68, 7, 7, 0x68, 0x82, 0x87, 0x08, 62, 60, 0x60, 1, 0xEC, 0x16};
-    static const uint8_t alone[] = {0xDC, 0x05, 0x05}, own[] = {0xDC, 0x05, 0x02};
     start(3);
     start(2);
     submit_high(CIHLOMET_SDN, 127, NO_POINT, NO_POINT, 0, &nine, 1);
@@ -245,26 +226,6 @@ static void station_calls(void)
     show();
     reset();
     collect_low();
-    show();
-    start_listening();
-    submit_high(CIHLOMET_SRD, 7, 60, 62, 4712, &one, 1);
-    show();
-    frame(6000, 0, NULL, 0, alone, sizeof alone);
-    frame(6500, 0, NULL, 0, alone, sizeof alone);
-    frame(7000, 0, NULL, 0, alone, sizeof alone);
-    show();
-    frame(7500, 0, NULL, 0, token, sizeof token);
-    frame(8000, 0, NULL, 0, reply, sizeof reply);
-    collect_high();
-    reset();
-    slot(8000 + cihlomet_tto(station.core.settings, 2)); /* 4550 with these settings */
-    show();
-    reset();
-    submit_high(CIHLOMET_SRD, 7, 60, 62, 4713, &one, 1);
-    frame(13000, 0, NULL, 0, own, sizeof own);
-    frame(13500, 0, NULL, 0, own, sizeof own);
-    reset();
-    collect_high();
     show();
 }
 

@@ -76,10 +76,9 @@ size_t cihlomet_list(const uint8_t *capture, size_t capture_count, uint8_t *out,
  * station; a state out of rule is refused.
  *
  * refused is 0, or the first of these that holds:
- *  20  start, listen: setting, TS over 126 or set out of rule
+ *  20  start: setting, TS over 126 or set out of rule
  *  21  row length 0, over 64 or not as started; data not 246 a place
  *  22  output under 255 octets, or an update over 244
- *  31  submit, hear, sent, slot, reset: the station has stopped
  *  29  a state with settings, TS or a set start would refuse, an address over 126, counts above its rows, a remembered
  *      reply over 255 octets, a phase at odds with what is being sent, or a number that means nothing
  *  29  hear, sent, slot: an unconfirmed record, in either row, that submit would refuse for itself
@@ -91,8 +90,8 @@ size_t cihlomet_list(const uint8_t *capture, size_t capture_count, uint8_t *out,
  *  27  submit: every place in use
  *  28  collect: none confirmed
  *  29  collect: a status not named below
- * Start and listen give 20 and 21; submit 21, 31, 29, 23 to 26, 30, 27; collect 21, 29, 28, 29; reset 21, 31 and 29;
- * hear, sent and slot 21, 22, 31 and 29. Times are bit times; the bit clock has 32 bits and may wrap. */
+ * Start gives 20 and 21; submit 21, 29, 23 to 26, 30, 27; collect 21, 29, 28, 29; reset 21 and 29; hear, sent and slot
+ * 21, 22 and 29. Times are bit times; the bit clock has 32 bits and may wrap. */
 
 enum cihlomet_service { CIHLOMET_SDA = 3, CIHLOMET_SDN = 4, CIHLOMET_SRD = 12 };
 
@@ -116,11 +115,7 @@ enum cihlomet_phase {
     CIHLOMET_REPLY_AWAITED = 1,
     CIHLOMET_SDN_GOING_OUT = 2,
     CIHLOMET_PASS_CHECKED = 3,
-    CIHLOMET_PASS_TO_SELF = 4,
-    /* outside the ring, of a station that learns its ring by listening */
-    CIHLOMET_LISTENING = 5, /* its list of masters is not complete */
-    CIHLOMET_READY = 6,     /* it is, and no hold has begun */
-    CIHLOMET_STOPPED = 7    /* its own address was heard twice: only collect answers, and a new start */
+    CIHLOMET_PASS_TO_SELF = 4
 };
 
 enum {
@@ -132,10 +127,10 @@ enum {
     CIHLOMET_MARK_UNKNOWN = 2 /* a frame count mark that is no bit */
 };
 
-/* A station's settings; `retries` is the retry limit of requests that ask for the station's. With TSM = 2 + 2 tset +
- * tqui a request or token waits Tid1, the longest of 33 + TSM, min_tsdr and tsdi; one that follows an SDN of the same
- * hold waits Tid2, the longer of 33 + TSM and max_tsdr. The slot time, which the caller keeps, is TSL = 2 ttd + 11 +
- * TSM + the longer of max_tsdr and Tid1. */
+/* A station's settings; `retries` is the retry limit of requests that ask for the station's. With TSM = 2 + 2 tset + tqui
+ * a request or token waits Tid1, the longest of 33 + TSM, min_tsdr and tsdi; one that follows an SDN of the same hold
+ * waits Tid2, the longer of 33 + TSM and max_tsdr. The slot time, which the caller keeps, is TSL = 2 ttd + 11 + TSM + the
+ * longer of max_tsdr and Tid1. */
 struct cihlomet_settings {
     uint32_t tset, tqui, min_tsdr, max_tsdr, ttd, ttr, retries, tsdi;
 };
@@ -145,10 +140,7 @@ struct cihlomet_settings {
  * 127 for none. served is the queue being served, 0 high and 1 low; sendings how often what is being sent went
  * out; sdn 1 if the last sending of the hold was an SDN, else 0. Of each queue: its places, the first in use, and
  * how many requests are confirmed and how many are not. source is whose request was answered, 127 for none, with
- * which bit, and length how many octets the remembered reply has. listens is 1 if the station was started by
- * cihlomet_listen, else 0; own is 1 if its own address was heard as a sender since that start or the last reset, else
- * 0. sender and holder are SA and DA of the token of another that was heard last outside the ring, 127 for none; size
- * is how many different stations the last tokens named, run how many tokens in a row went round these. */
+ * which bit, and length how many octets the remembered reply has. */
 struct cihlomet_core {
     struct cihlomet_settings settings;
     uint32_t acceptance, before;
@@ -157,13 +149,11 @@ struct cihlomet_core {
     uint8_t low_places, low_first, low_confirmed, low_unconfirmed;
     uint8_t source, bit;
     uint16_t length;
-    uint8_t listens, own, sender, holder, size, run;
 };
 
-/* A station: beside the core the set of masters and the set it was started with, 1 for each address in it (while the
- * station learns, started also holds p + 1 for the pth of the stations that the tokens named last); the frame count
- * marks, the next bit for each address or CIHLOMET_MARK_UNKNOWN; the active access points, 1 for each of 0..62, and at
- * 63 for "none"; and the octets of the remembered reply. */
+/* A station: beside the core the set of masters and the set it was started with, 1 for each address in it; the
+ * frame count marks, the next bit for each address or CIHLOMET_MARK_UNKNOWN; the active access points, 1 for each
+ * of 0..62, and at 63 for "none"; and the octets of the remembered reply. */
 struct cihlomet_station {
     struct cihlomet_core core;
     uint8_t masters[CIHLOMET_ADDRESSES];
@@ -176,7 +166,7 @@ struct cihlomet_station {
 /* A station as the first arguments of a call. */
 #define CIHLOMET_STATION(s) (s)->core, (s)->masters, (s)->started, (s)->marks, (s)->points, (s)->memory
 
-/* What start, listen and reset answer. */
+/* What start and reset answer. */
 struct cihlomet_renewed {
     uint8_t refused;
     struct cihlomet_core core;
@@ -207,10 +197,9 @@ struct cihlomet_indication {
 };
 
 /* What hear, sent and slot answer: `length` octets at the start of the output are to be sent after `wait`, behind
- * which it is as it was; 0 and 0 if there is nothing to send. Sent and slot indicate nothing. stopped is 1 if the
- * frame heard has stopped the station, else 0: all its unconfirmed requests are then confirmed DS. */
+ * which it is as it was; 0 and 0 if there is nothing to send. Sent and slot indicate nothing. */
 struct cihlomet_answer {
-    uint8_t refused, stopped;
+    uint8_t refused;
     uint32_t wait;
     size_t length;
     struct cihlomet_indication indication;
@@ -227,18 +216,6 @@ struct cihlomet_settings cihlomet_standard(void);
 struct cihlomet_renewed cihlomet_start(struct cihlomet_settings settings, uint8_t ts, const uint8_t *masters,
                                        uint8_t *started, uint8_t *marks, const uint8_t *points, uint8_t *memory,
                                        size_t high, size_t low);
-
-/* Starts a station that learns its ring by listening, without a set of masters: fills masters, started, marks and
- * memory. It sends nothing but replies to FDL status until a token reaches it, or until the bus was quiet for TTO: the
- * caller keeps that time from the last octet heard on, and calls cihlomet_slot when it has passed. The core of a
- * refused listen is refused by every call. */
-struct cihlomet_renewed cihlomet_listen(struct cihlomet_settings settings, uint8_t ts, uint8_t *masters,
-                                        uint8_t *started, uint8_t *marks, const uint8_t *points, uint8_t *memory,
-                                        size_t high, size_t low);
-
-/* TTO = (6 + 2 ts) TSL, for which the bus is quiet before a station outside the ring claims the token; 0 for settings
- * or a TS that a start refuses. */
-uint32_t cihlomet_tto(struct cihlomet_settings settings, uint8_t ts);
 
 /* Submits a request to the high queue, or to the low one, whose row and data area are lent; to and from are the
  * access points of destination and source. The reference is the caller's own, of any value, and is handed back with
@@ -267,16 +244,15 @@ struct cihlomet_collected cihlomet_collect_low(struct cihlomet_core core, const 
                                                const uint8_t *memory, const uint8_t *row, size_t row_count,
                                                const uint8_t *area, size_t area_count);
 
-/* Confirms all unconfirmed requests DS and begins afresh with the set that was started with, or, if it was started by
- * cihlomet_listen, listens afresh. */
-struct cihlomet_renewed cihlomet_reset(struct cihlomet_core core, uint8_t *masters, uint8_t *started,
+/* Confirms all unconfirmed requests DS and begins afresh with the set that was started with. */
+struct cihlomet_renewed cihlomet_reset(struct cihlomet_core core, uint8_t *masters, const uint8_t *started,
                                        uint8_t *marks, const uint8_t *points, const uint8_t *memory, uint8_t *high,
                                        size_t high_count, uint8_t *high_data, size_t high_data_count, uint8_t *low,
                                        size_t low_count, uint8_t *low_data, size_t low_data_count);
 
 /* A string of octets was heard. `room` says whether the caller has room for an indication, 0 for none. The updates
  * are the data that an SRD is answered with, high first; those of 0 octets are none. */
-struct cihlomet_answer cihlomet_hear(struct cihlomet_core core, uint8_t *masters, uint8_t *started,
+struct cihlomet_answer cihlomet_hear(struct cihlomet_core core, uint8_t *masters, const uint8_t *started,
                                      uint8_t *marks, const uint8_t *points, uint8_t *memory, uint32_t clock,
                                      uint8_t room, const uint8_t *update_high, size_t update_high_count,
                                      const uint8_t *update_low, size_t update_low_count, const uint8_t *octets,
@@ -291,7 +267,7 @@ struct cihlomet_answer cihlomet_sent(struct cihlomet_core core, const uint8_t *m
                                      uint8_t *low, size_t low_count, uint8_t *low_data, size_t low_data_count,
                                      uint8_t *out, size_t out_count);
 
-/* The slot time expired; of a station outside the ring, TTO. */
+/* The slot time expired. */
 struct cihlomet_answer cihlomet_slot(struct cihlomet_core core, uint8_t *masters, const uint8_t *started,
                                      uint8_t *marks, const uint8_t *points, const uint8_t *memory, uint32_t clock,
                                      uint8_t *high, size_t high_count, uint8_t *high_data, size_t high_data_count,

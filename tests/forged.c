@@ -2,11 +2,10 @@
  * library and prints whether it is refused, as `reference refusal` does. tests/reference/src/cases.rs has the words.
  * Every buffer that it lends ends at a fence of its own. A refused call must answer the core that it was given and
  * leave all that is lent as it was; an accepted one must leave what it is lent only to read, a submit must write the
- * reference and the limit of its request and a collect hand back the record that lies there. Outside the ring an
- * accepted call must also do what can be foretold whatever numbers the station learns by: nearly all but what a token
- * makes of them. What else an accepted call does is compared elsewhere. */
+ * reference and the limit of its request and a collect hand back the record that lies there. What else an accepted call
+ * does is compared elsewhere. */
 #define _GNU_SOURCE
-#include "foretold.h"
+#include "../include/cihlomet.h"
 #include "lent.h"
 #include <stdbool.h>
 #include <stdio.h>
@@ -14,12 +13,10 @@
 #include <string.h>
 #include <sys/mman.h>
 
-enum { CORE = offsetof(struct cihlomet_core, run) + 1 }; /* a core is compared by its octets, without the padding */
-
-_Static_assert(CORE == 66 && sizeof(struct cihlomet_core) == 68, "no padding but at the end");
+_Static_assert(sizeof(struct cihlomet_core) == 60, "no padding: a core is compared by its octets");
 _Static_assert(offsetof(struct cihlomet_collected, reference) == 12, "behind eleven octets");
 _Static_assert(offsetof(struct cihlomet_collected, core) == 16, "behind the reference");
-_Static_assert(sizeof(struct cihlomet_collected) == 84, "a core behind the reference");
+_Static_assert(sizeof(struct cihlomet_collected) == 76, "a core behind the reference");
 
 /* A buffer as lent, and a copy of what it held before the call. */
 struct part {
@@ -177,28 +174,25 @@ static void say(uint8_t refused, const struct cihlomet_core *answered)
         puts("ok");
         return;
     }
-    if (answered != NULL && memcmp(answered, &core, CORE) != 0)
+    if (answered != NULL && memcmp(answered, &core, sizeof core) != 0)
         stop("a refused call answered another core");
     printf("refused %u\n", refused);
 }
 
 /* Shows the answer of hear, sent or slot. An accepted one leaves the output behind the octets to send as it was, and a
- * state that is accepted again, or has stopped. */
+ * state that is accepted again. */
 static void say_turn(const struct cihlomet_answer *answer)
 {
     const struct part *out = &parts[OUT];
-    const uint8_t next = answer->core.phase == CIHLOMET_STOPPED ? 31 : 0;
     say(answer->refused, &answer->core);
-    if (answer->stopped != (answer->refused == 0 && next == 31))
-        stop("stopped is not said, or said wrongly");
     if (answer->refused != 0)
         return;
     if (answer->length > CIHLOMET_LONGEST)
         stop("more octets than a frame has");
     if (memcmp(out->octets + answer->length, out->before + answer->length, out->count - answer->length) != 0)
         stop("an accepted call touched the output behind the octets to send");
-    if (cihlomet_slot(answer->core, ARRAYS, 0, ROWS, LENT(OUT)).refused != next)
-        stop("an accepted call left a state that is refused, or stopped one that goes on");
+    if (cihlomet_slot(answer->core, ARRAYS, 0, ROWS, LENT(OUT)).refused != 0)
+        stop("an accepted call left a state that is refused");
 }
 
 /* ---- The numbers of a core: those of the word `first`, then with NULL the next ones of that word. */
@@ -226,22 +220,12 @@ static void read_core(char *word)
         &core.high_places, &core.high_first, &core.high_confirmed, &core.high_unconfirmed,
         &core.low_places,  &core.low_first,  &core.low_confirmed,  &core.low_unconfirmed,
         &core.source,      &core.bit};
-    uint8_t *const learned[] = {&core.listens, &core.own, &core.sender, &core.holder, &core.size, &core.run};
     core.settings = read_settings(word);
     core.acceptance = next_number(NULL, UINT32_MAX);
     core.before = next_number(NULL, UINT32_MAX);
     for (size_t i = 0; i < sizeof small / sizeof small[0]; i++)
         *small[i] = (uint8_t)next_number(NULL, UINT8_MAX);
     core.length = (uint16_t)next_number(NULL, UINT16_MAX);
-    for (size_t i = 0; i < sizeof learned / sizeof learned[0]; i++)
-        *learned[i] = (uint8_t)next_number(NULL, UINT8_MAX);
-}
-
-/* What the calls of a station outside the ring are held to. */
-static struct foretold given(void)
-{
-    const bool alone = is_alone(&core, parts[STARTED].before);
-    return (struct foretold){&core, AT(MASTERS), AT(STARTED), AT(MARKS), AT(OUT), alone};
 }
 
 /* ---- The calls; word[1] to word[5] are a station. */
@@ -250,7 +234,7 @@ static void read_station(char **word)
     clear();
     read_core(word[1]);
     lend_arrays(word + 2);
-    CONSTANT(POINTS);
+    CONSTANT(STARTED, POINTS);
 }
 
 static void read_rows(char **word)
@@ -270,17 +254,10 @@ static void ask_hear(char **word)
     parts[INPUT].octets = lay(word[15], parts[INPUT].fence, &count);
     parts[INPUT].count = count;
     CONSTANT(UPDATE_HIGH, UPDATE_LOW, INPUT);
-    const struct cihlomet_frame frame = cihlomet_read(LENT(INPUT));
-    if (core.phase <= CIHLOMET_PASS_TO_SELF)
-        CONSTANT(STARTED);
-    else if (is_outside(&core) && !(is_own(&core, &frame) && core.own == 1) && frame.form != CIHLOMET_TOKEN)
-        CONSTANT(MASTERS, STARTED, MARKS, MEMORY, HIGH, HIGH_DATA, LOW, LOW_DATA);
     keep();
     struct cihlomet_answer answer =
         cihlomet_hear(core, ARRAYS, (uint32_t)number(word[11], UINT32_MAX), octet(word[12]), LENT(UPDATE_HIGH),
                       LENT(UPDATE_LOW), LENT(INPUT), ROWS, LENT(OUT));
-    if (answer.refused == 0 && is_outside(&core))
-        heard_outside(given(), &answer, &frame);
     say_turn(&answer);
 }
 
@@ -288,14 +265,10 @@ static void ask_sent(char **word)
 {
     read_rows(word);
     lend_count(OUT, word[10]);
-    CONSTANT(MASTERS, STARTED, MEMORY);
-    if (is_outside(&core))
-        CONSTANT(MARKS, HIGH, HIGH_DATA, LOW, LOW_DATA);
+    CONSTANT(MASTERS, MEMORY);
     keep();
     struct cihlomet_answer answer =
         cihlomet_sent(core, ARRAYS, (uint32_t)number(word[11], UINT32_MAX), ROWS, LENT(OUT));
-    if (answer.refused == 0 && is_outside(&core))
-        nothing(given(), &answer);
     say_turn(&answer);
 }
 
@@ -303,12 +276,10 @@ static void ask_slot(char **word)
 {
     read_rows(word);
     lend_count(OUT, word[10]);
-    CONSTANT(STARTED, MEMORY);
+    CONSTANT(MEMORY);
     keep();
-    const uint32_t clock = (uint32_t)number(word[11], UINT32_MAX);
-    struct cihlomet_answer answer = cihlomet_slot(core, ARRAYS, clock, ROWS, LENT(OUT));
-    if (answer.refused == 0 && is_outside(&core))
-        claimed(given(), &answer, clock);
+    struct cihlomet_answer answer =
+        cihlomet_slot(core, ARRAYS, (uint32_t)number(word[11], UINT32_MAX), ROWS, LENT(OUT));
     say_turn(&answer);
 }
 
@@ -316,12 +287,8 @@ static void ask_reset(char **word)
 {
     read_rows(word);
     CONSTANT(MEMORY);
-    if (core.listens == 0)
-        CONSTANT(STARTED);
     keep();
     struct cihlomet_renewed answer = cihlomet_reset(core, ARRAYS, ROWS);
-    if (answer.refused == 0)
-        renewed(given(), &answer.core);
     say(answer.refused, &answer.core);
 }
 
@@ -361,7 +328,7 @@ static void ask_submit(char **word)
     read_station(word);
     lend_row(row, word + 6);
     lend_count(INPUT, word[15]);
-    CONSTANT(MASTERS, STARTED, MARKS, MEMORY, INPUT);
+    CONSTANT(MASTERS, MARKS, MEMORY, INPUT);
     keep();
     struct cihlomet_accepted answer =
         (high ? cihlomet_submit_high : cihlomet_submit_low)(core, ARRAYS, octet(word[8]), octet(word[9]),
@@ -404,7 +371,7 @@ static void ask_collect(char **word)
     size_t row = high ? HIGH : LOW;
     read_station(word);
     lend_row(row, word + 6);
-    CONSTANT(MASTERS, STARTED, MARKS, MEMORY, row, row + 1);
+    CONSTANT(MASTERS, MARKS, MEMORY, row, row + 1);
     keep();
     struct cihlomet_collected answer =
         (high ? cihlomet_collect_high : cihlomet_collect_low)(core, ARRAYS, LENT(row), LENT(row + 1));
@@ -443,38 +410,12 @@ static void ask_start(char **word)
         refused_again(&answer.core);
 }
 
-/* Listen fills the sets itself: with TS alone. */
-static void ask_listen(char **word)
-{
-    clear();
-    core.ts = octet(word[2]);
-    lend_list(POINTS, word[3], CIHLOMET_POINTS);
-    lend(MASTERS, CIHLOMET_ADDRESSES);
-    lend(STARTED, CIHLOMET_ADDRESSES);
-    lend(MARKS, CIHLOMET_ADDRESSES);
-    lend(MEMORY, CIHLOMET_LONGEST);
-    CONSTANT(POINTS);
-    keep();
-    struct cihlomet_renewed answer = cihlomet_listen(read_settings(word[1]), core.ts, ARRAYS,
-                                                     number(word[4], SIZE_MAX), number(word[5], SIZE_MAX));
-    say(answer.refused, NULL);
-    if (answer.refused != 0) {
-        refused_again(&answer.core);
-        return;
-    }
-    struct foretold filled = {.core = &core, .masters = AT(MASTERS), .started = AT(STARTED), .alone = true};
-    absent(filled, &answer.core);
-    if (answer.core.phase != CIHLOMET_LISTENING || answer.core.listens != 1)
-        stop("listen does not listen");
-}
-
 int main(void)
 {
     static const struct call calls[] = {
         {"hear", 16, ask_hear},           {"sent", 12, ask_sent},          {"slot", 12, ask_slot},
         {"reset", 10, ask_reset},         {"submit_high", 16, ask_submit}, {"submit_low", 16, ask_submit},
         {"collect_high", 8, ask_collect}, {"collect_low", 8, ask_collect}, {"start", 7, ask_start},
-        {"listen", 6, ask_listen},
     };
     for (size_t i = 0; i < PARTS; i++) {
         parts[i].fence = fenced();

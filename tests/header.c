@@ -1,8 +1,10 @@
 /* Holds the numbers of include/cihlomet.h to the library's: where each field of a struct lies, what each code means,
  * and which lengths are refused and which are taken. Each field is given, or looked for, by a value of its own, so
- * that two exchanged ones would show. tests/listening.c goes on with a station that learns its ring. Prints how many
- * claims held, or stops at the first that does not and names its line here. */
-#include "claims.h"
+ * that two exchanged ones would show. Every buffer ends at a fence, and one of no octets comes at no address. Prints
+ * how many claims held, or stops at the first that does not and names its line here. */
+#include "../include/cihlomet.h"
+#include "lent.h"
+#include <stdbool.h>
 #include <stdio.h>
 #include <string.h>
 
@@ -19,23 +21,185 @@ AT(core, settings, 0); AT(core, acceptance, 32); AT(core, before, 36); AT(core, 
 AT(core, stranger, 42); AT(core, phase, 43); AT(core, served, 44); AT(core, sendings, 45); AT(core, sdn, 46);
 AT(core, begun, 47); AT(core, high_places, 48); AT(core, high_first, 49); AT(core, high_confirmed, 50);
 AT(core, high_unconfirmed, 51); AT(core, low_places, 52); AT(core, low_first, 53); AT(core, low_confirmed, 54);
-AT(core, low_unconfirmed, 55); AT(core, source, 56); AT(core, bit, 57); AT(core, length, 58); AT(core, listens, 60);
-AT(core, own, 61); AT(core, sender, 62); AT(core, holder, 63); AT(core, size, 64); AT(core, run, 65); SIZE(core, 68);
-AT(station, core, 0); AT(station, masters, 68); AT(station, started, 195); AT(station, marks, 322);
-AT(station, points, 449); AT(station, memory, 513); SIZE(station, 768);
-AT(renewed, refused, 0); AT(renewed, core, 4); SIZE(renewed, 72);
-AT(accepted, refused, 0); AT(accepted, place, 1); AT(accepted, core, 4); SIZE(accepted, 72);
+AT(core, low_unconfirmed, 55); AT(core, source, 56); AT(core, bit, 57); AT(core, length, 58); SIZE(core, 60);
+AT(station, core, 0); AT(station, masters, 60); AT(station, started, 187); AT(station, marks, 314);
+AT(station, points, 441); AT(station, memory, 505); SIZE(station, 760);
+AT(renewed, refused, 0); AT(renewed, core, 4); SIZE(renewed, 64);
+AT(accepted, refused, 0); AT(accepted, place, 1); AT(accepted, core, 4); SIZE(accepted, 64);
 AT(collected, refused, 0); AT(collected, place, 1); AT(collected, service, 2); AT(collected, destination, 3);
 AT(collected, to, 4); AT(collected, from, 5); AT(collected, length, 6); AT(collected, status, 7);
 AT(collected, count, 8); AT(collected, limit, 9); AT(collected, asks, 10); AT(collected, reference, 12);
-AT(collected, core, 16); SIZE(collected, 84);
+AT(collected, core, 16); SIZE(collected, 76);
 AT(indication, indicated, 0); AT(indication, control, 1); AT(indication, destination, 2); AT(indication, to, 3);
 AT(indication, source, 4); AT(indication, from, 5); AT(indication, start, 8); AT(indication, count, 16);
 SIZE(indication, 24);
-AT(answer, refused, 0); AT(answer, stopped, 1); AT(answer, wait, 4); AT(answer, length, 8); AT(answer, indication, 16);
-AT(answer, core, 40); SIZE(answer, 112);
+AT(answer, refused, 0); AT(answer, wait, 4); AT(answer, length, 8); AT(answer, indication, 16); AT(answer, core, 40);
+SIZE(answer, 104);
 
-enum { CORE = offsetof(struct cihlomet_core, run) + 1 }; /* a core is compared by its octets, without the padding */
+/* ---- Claims. */
+static unsigned held;
+
+#define CLAIM(claim) (name_call(__LINE__, #claim), (claim) ? (void)held++ : stop("does not hold"))
+
+/* ---- What is lent. */
+struct part {
+    uint8_t *at, *fence;
+    size_t count;
+};
+
+static struct part high, high_data, low, low_data, out, update_high, update_low, heard, data;
+static struct part *const parts[] = {&high, &high_data, &low,   &low_data, &out,
+                                     &update_high, &update_low, &heard, &data};
+static struct cihlomet_station *s;
+
+enum { HIGH_PLACES = 3, LOW_PLACES = 2 };
+enum { TS = 3, NS = 9, PS = 20, LIFT = 7, POINT = 60, OWN_POINT = 62, INACTIVE = 5, NONE = 63 };
+enum { FDL_STATUS = 0x49, SRD_LOW_FIRST = 0x6C, SDN_LOW = 0x44, CODE = 15, FCB = 0x20, FCV = 0x10 };
+enum { TID1 = 91, TID2 = 405, CLOCK = 100000 };
+
+/* With these TSM is 47, and Tid1 and Tid2 as above. */
+static const struct cihlomet_settings settings = {
+    .tset = 21, .tqui = 3, .min_tsdr = 44, .max_tsdr = 405, .ttd = 6, .ttr = 7007, .retries = 2, .tsdi = 91};
+
+#define LENT(p) (p).at, (p).count
+#define ROWS LENT(high), LENT(high_data), LENT(low), LENT(low_data)
+#define STATION CIHLOMET_STATION(s)
+
+/* Lends so many octets before the fence; none come at no address. */
+static void lend(struct part *p, size_t count)
+{
+    p->count = count;
+    p->at = count == 0 ? NULL : memset(p->fence - count, BEFORE, count);
+}
+
+static void lend_rows(size_t high_places, size_t low_places)
+{
+    lend(&high, high_places * CIHLOMET_RECORD);
+    lend(&high_data, high_places * CIHLOMET_DATA);
+    lend(&low, low_places * CIHLOMET_RECORD);
+    lend(&low_data, low_places * CIHLOMET_DATA);
+}
+
+static void lend_octets(struct part *p, const void *octets, size_t count)
+{
+    lend(p, count);
+    if (count != 0)
+        memcpy(p->at, octets, count);
+}
+
+/* ---- Calls. Those that are accepted change the station. */
+static struct cihlomet_renewed start(struct cihlomet_settings with, uint8_t ts, size_t high_places, size_t low_places)
+{
+    struct cihlomet_renewed r = cihlomet_start(with, ts, s->masters, s->started, s->marks, s->points, s->memory,
+                                               high_places, low_places);
+    s->core = r.core;
+    return r;
+}
+
+/* A station in Idle with empty rows in the ring 3, 9, 20. */
+static void begin(void)
+{
+    memset(s, 0, sizeof *s);
+    memset(s->points, 1, sizeof s->points);
+    s->masters[TS] = s->masters[NS] = s->masters[PS] = 1;
+    s->points[INACTIVE] = 0;
+    lend_rows(HIGH_PLACES, LOW_PLACES);
+    for (size_t i = 4; i < sizeof parts / sizeof parts[0]; i++)
+        lend(parts[i], 0);
+    lend(&out, CIHLOMET_LONGEST);
+    CLAIM(start(settings, TS, HIGH_PLACES, LOW_PLACES).refused == 0);
+}
+
+static struct cihlomet_answer hear(uint32_t clock, uint8_t room)
+{
+    struct cihlomet_answer a =
+        cihlomet_hear(STATION, clock, room, LENT(update_high), LENT(update_low), LENT(heard), ROWS, LENT(out));
+    s->core = a.core;
+    return a;
+}
+
+static struct cihlomet_answer sent(uint32_t clock)
+{
+    struct cihlomet_answer a = cihlomet_sent(STATION, clock, ROWS, LENT(out));
+    s->core = a.core;
+    return a;
+}
+
+static struct cihlomet_answer slot(uint32_t clock)
+{
+    struct cihlomet_answer a = cihlomet_slot(STATION, clock, ROWS, LENT(out));
+    s->core = a.core;
+    return a;
+}
+
+static struct cihlomet_renewed reset(void)
+{
+    struct cihlomet_renewed r = cihlomet_reset(STATION, ROWS);
+    s->core = r.core;
+    return r;
+}
+
+/* What a request has of its own: a reference, a limit, and whether it asks for the station's. */
+struct own {
+    uint32_t reference;
+    uint8_t limit, asks;
+};
+
+static struct cihlomet_accepted submit_own(bool upper, uint8_t service, uint8_t destination, uint8_t to, uint8_t from,
+                                           struct own own)
+{
+    struct cihlomet_accepted a =
+        upper ? cihlomet_submit_high(STATION, service, destination, to, from, own.reference, own.limit, own.asks,
+                                     LENT(data), LENT(high), LENT(high_data))
+              : cihlomet_submit_low(STATION, service, destination, to, from, own.reference, own.limit, own.asks,
+                                    LENT(data), LENT(low), LENT(low_data));
+    s->core = a.core;
+    return a;
+}
+
+/* A request without a reference that asks for the station's limit; the one given beside would be refused. */
+static struct cihlomet_accepted submit(bool upper, uint8_t service, uint8_t destination, uint8_t to, uint8_t from)
+{
+    return submit_own(upper, service, destination, to, from, (struct own){.reference = 0, .limit = 255, .asks = 1});
+}
+
+/* An SRD to the lift. */
+static struct cihlomet_accepted srd(bool upper, uint32_t reference, uint8_t limit, uint8_t asks)
+{
+    return submit_own(upper, CIHLOMET_SRD, LIFT, POINT, OWN_POINT, (struct own){reference, limit, asks});
+}
+
+static struct cihlomet_collected collect(bool upper)
+{
+    struct cihlomet_collected c = upper ? cihlomet_collect_high(STATION, LENT(high), LENT(high_data))
+                                        : cihlomet_collect_low(STATION, LENT(low), LENT(low_data));
+    s->core = c.core;
+    return c;
+}
+
+/* The station hears a token from `source`. */
+static struct cihlomet_answer token(uint32_t clock, uint8_t source)
+{
+    uint8_t octets[3];
+    lend_octets(&heard, octets, cihlomet_token(TS, source, octets, sizeof octets).count);
+    return hear(clock, 0);
+}
+
+/* The station hears a frame to it from an access point. */
+static struct cihlomet_answer frame(uint8_t source, uint8_t from, uint8_t to, uint8_t control, size_t count)
+{
+    uint8_t octets[CIHLOMET_LONGEST], some[CIHLOMET_DATA] = {1, 2, 3, 4, 5, 6, 7};
+    lend_octets(&heard, octets,
+                cihlomet_write(TS, to, source, from, control, some, count, octets, sizeof octets).count);
+    return hear(CLOCK, 1);
+}
+
+/* All calls that are lent both rows refuse by this number. */
+static bool rows_refused(uint8_t number)
+{
+    return hear(CLOCK, 0).refused == number && sent(CLOCK).refused == number && slot(CLOCK).refused == number &&
+           reset().refused == number;
+}
 
 /* The second hold, in which there is time, begins after a first one in which there was nothing to send. */
 static struct cihlomet_answer second_hold(bool upper, uint8_t service)
@@ -139,6 +303,17 @@ static void other_rooms(void)
 
 /* ---- A station's settings and core. */
 
+/* Each setting's bounds when the others are as above: no two have the same. */
+static const struct {
+    size_t offset;
+    uint32_t least, greatest;
+} bounds[] = {
+    {offsetof(struct cihlomet_settings, tset), 20, 255},    {offsetof(struct cihlomet_settings, tqui), 0, 43},
+    {offsetof(struct cihlomet_settings, min_tsdr), 20, 405}, {offsetof(struct cihlomet_settings, max_tsdr), 44, 65465},
+    {offsetof(struct cihlomet_settings, ttd), 0, 32536},    {offsetof(struct cihlomet_settings, ttr), 20, 16777215},
+    {offsetof(struct cihlomet_settings, retries), 0, 15},   {offsetof(struct cihlomet_settings, tsdi), 0, 65465},
+};
+
 /* What start says to a setting of this number, and then a call to a core with it. */
 static uint8_t with_setting(size_t offset, uint32_t number, uint8_t *later)
 {
@@ -201,9 +376,7 @@ static const struct {
     NUMBER(ts, NS, 127, 29),
     NUMBER(ps, 126, 127, 29),
     NUMBER(stranger, CIHLOMET_ADDRESSES, 128, 29),
-    NUMBER(phase, CIHLOMET_PASS_CHECKED, CIHLOMET_STOPPED + 1, 29),
-    NUMBER(phase, CIHLOMET_LISTENING, 255, 29),
-    NUMBER(phase, CIHLOMET_READY, CIHLOMET_STOPPED, 31),
+    NUMBER(phase, CIHLOMET_PASS_CHECKED, CIHLOMET_PASS_TO_SELF + 1, 29),
     NUMBER(served, 1, 2, 29),
     NUMBER(sendings, 255, 0, 0),
     NUMBER(sdn, 1, 2, 29),
@@ -218,12 +391,6 @@ static const struct {
     NUMBER(low_unconfirmed, LOW_PLACES, LOW_PLACES + 1, 29),
     NUMBER(source, CIHLOMET_ADDRESSES, 128, 29),
     NUMBER(bit, 1, 2, 29),
-    NUMBER(listens, 1, 2, 29),
-    NUMBER(own, 1, 2, 29),
-    NUMBER(sender, 255, 128, 0),
-    NUMBER(holder, 255, 128, 0),
-    NUMBER(size, 255, 128, 0),
-    NUMBER(run, 255, 1, 0),
 };
 
 /* A core with one number changed: what reset says to it, and that a refused one comes back. */
@@ -233,7 +400,7 @@ static uint8_t with_number(size_t offset, uint8_t number)
     ((uint8_t *)&s->core)[offset] = number;
     struct cihlomet_core given = s->core;
     uint8_t refused = reset().refused;
-    CLAIM(refused == 0 || memcmp(&s->core, &given, CORE) == 0);
+    CLAIM(refused == 0 || memcmp(&s->core, &given, sizeof given) == 0);
     return refused;
 }
 
@@ -724,7 +891,10 @@ static void output_lengths(void)
 
 int main(void)
 {
-    make();
+    watch();
+    for (size_t i = 0; i < sizeof parts / sizeof parts[0]; i++)
+        parts[i]->fence = fenced();
+    s = (struct cihlomet_station *)(void *)(fenced() - sizeof *s);
     read_forms();
     read_refusals();
     write_refusals();

@@ -12,13 +12,11 @@
 enum { LONGEST_LINE = 4096, MOST_WORDS = 15, MOST_PLACES = 64 };
 enum { ROW = MOST_PLACES * CIHLOMET_RECORD, AREA = MOST_PLACES * CIHLOMET_DATA };
 
-enum { CORE = offsetof(struct cihlomet_core, run) + 1 }; /* a core is compared by its octets, without the padding */
-
-_Static_assert(CORE == 66 && sizeof(struct cihlomet_core) == 68, "no padding but at the end");
-_Static_assert(sizeof(struct cihlomet_station) == 768, "no padding behind a core: a station ends with its memory");
+_Static_assert(sizeof(struct cihlomet_core) == 60, "no padding: a core is compared by its octets");
+_Static_assert(sizeof(struct cihlomet_station) == 760, "no padding: a station ends with its memory");
 _Static_assert(offsetof(struct cihlomet_collected, reference) == 12, "behind eleven octets");
 _Static_assert(offsetof(struct cihlomet_collected, core) == 16, "behind the reference");
-_Static_assert(sizeof(struct cihlomet_collected) == 84, "a core behind the reference");
+_Static_assert(sizeof(struct cihlomet_collected) == 76, "a core behind the reference");
 
 /* A queue's row and data area, and of the request at each place what no answer of a script shows: the limit that it was
  * to go by, and whether it asked for the station's. */
@@ -72,12 +70,6 @@ static void same_low(void)
     same(low.area, before.low_data, low.area_count, "the low data were touched");
 }
 
-/* Whether the station was in Listening or Ready, where a frame may change the set as started. */
-static bool was_outside(void)
-{
-    return before.station.core.phase == CIHLOMET_LISTENING || before.station.core.phase == CIHLOMET_READY;
-}
-
 static void same_lists(void)
 {
     same(station->started, before.station.started, CIHLOMET_ADDRESSES, "the set as started was touched");
@@ -95,7 +87,7 @@ static void same_arrays(void)
 /* Holds what a refused call left and the core that it answered against what it was given. */
 static void same_all(const struct cihlomet_core *answered)
 {
-    same(answered, &before.station.core, CORE, "a refused call answered another core");
+    same(answered, &before.station.core, sizeof *answered, "a refused call answered another core");
     same_arrays();
     same_high();
     same_low();
@@ -268,7 +260,7 @@ static void say_answer(const struct cihlomet_answer *answer, const uint8_t *octe
         stop("more octets than the output has");
     same(out + answer->length, before.out + answer->length, CIHLOMET_LONGEST - answer->length,
          "the output behind the octets to send was touched");
-    same(station->points, before.station.points, CIHLOMET_POINTS, "the access points were touched");
+    same_lists();
     station->core = answer->core;
     printf("ok");
     if (answer->length != 0) {
@@ -281,9 +273,7 @@ static void say_answer(const struct cihlomet_answer *answer, const uint8_t *octe
         say_indication(&answer->indication, octets, count);
     else if (answer->indication.indicated != 0)
         stop("neither indicated nor not");
-    if (answer->stopped != (answer->core.phase == CIHLOMET_STOPPED))
-        stop("stopped is not said, or said wrongly");
-    puts(answer->stopped ? " stopped" : "");
+    putchar('\n');
 }
 
 /* ---- The calls; each is false if a word does not fit its place, and then nothing was asked. */
@@ -295,38 +285,20 @@ static void lay_rows(struct rows *r, size_t places)
     r->area = memset(r->area_end - r->area_count, 0, r->area_count);
 }
 
-/* The set is absent: TS alone, in force and kept. */
-static void absent(const struct cihlomet_station *s)
+static void ask_start(const struct cihlomet_settings *settings, uint8_t ts, uint8_t places_high, uint8_t places_low)
 {
-    for (size_t i = 0; i < CIHLOMET_ADDRESSES; i++)
-        if ((s->masters[i] == 1) != (i == s->core.ts) || (s->started[i] == 1) != (i == s->core.ts))
-            stop("the set of masters is not TS alone");
-    if (s->core.ps != s->core.ts)
-        stop("PS is not TS");
-}
-
-/* Starts the station that was offered, with its set of masters or by listening. */
-static void ask_start(bool listens, const struct cihlomet_settings *settings, uint8_t ts, uint8_t places_high,
-                      uint8_t places_low)
-{
-    struct cihlomet_station given;
-    memcpy(&given, offered, sizeof given);
+    struct cihlomet_station given = *offered;
     struct cihlomet_renewed answer =
-        listens ? cihlomet_listen(*settings, ts, offered->masters, offered->started, offered->marks, offered->points,
-                                  offered->memory, places_high, places_low)
-                : cihlomet_start(*settings, ts, offered->masters, offered->started, offered->marks, offered->points,
-                                 offered->memory, places_high, places_low);
+        cihlomet_start(*settings, ts, offered->masters, offered->started, offered->marks, offered->points,
+                       offered->memory, places_high, places_low);
     if (answer.refused != 0) {
         same(offered, &given, sizeof given, "a refused start touched what it was lent");
         printf("refused %u\n", answer.refused);
         return;
     }
+    same(offered->masters, given.masters, sizeof given.masters, "start touched the set of masters");
     same(offered->points, given.points, sizeof given.points, "start touched the access points");
     offered->core = answer.core;
-    if (listens)
-        absent(offered);
-    else
-        same(offered->masters, given.masters, sizeof given.masters, "start touched the set of masters");
     struct cihlomet_station *old = station;
     station = offered;
     offered = old;
@@ -369,17 +341,15 @@ static bool start(char **word)
     for (size_t i = 0; i < 7; i++)
         if (!number_in(word[1 + i], UINT32_MAX, setting[i]))
             return false;
-    const bool listens = strcmp(word[9], "listen") == 0;
     memset(offered, BEFORE, sizeof *offered);
-    if (!listens)
-        memset(offered->masters, 0, sizeof offered->masters);
+    memset(offered->masters, 0, sizeof offered->masters);
     memset(offered->points, 0, sizeof offered->points);
-    if (!number_in(word[8], UINT32_MAX, &ts) || (!listens && !list_in(word[9], 126, false, offered->masters)) ||
+    if (!number_in(word[8], UINT32_MAX, &ts) || !list_in(word[9], 126, false, offered->masters) ||
         !list_in(word[10], 62, true, offered->points) || !octet_in(word[11], 255, &places_high) ||
         !octet_in(word[12], 255, &places_low) || !pairs_in(word + 13, &tsdi, 1))
         return false;
     settings.tsdi = tsdi.value;
-    ask_start(listens, &settings, ts > 255 ? 255 : (uint8_t)ts, places_high, places_low);
+    ask_start(&settings, ts > 255 ? 255 : (uint8_t)ts, places_high, places_low);
     return true;
 }
 
@@ -457,9 +427,7 @@ static bool reset(char **word)
     struct cihlomet_renewed answer = cihlomet_reset(CIHLOMET_STATION(station), ROWS(&high), ROWS(&low));
     if (say_refused(answer.refused, &answer.core))
         return true;
-    if (before.station.core.listens == 0)
-        same_lists();
-    same(station->points, before.station.points, CIHLOMET_POINTS, "reset touched the access points");
+    same_lists();
     same(station->memory, before.station.memory, CIHLOMET_LONGEST, "reset touched the memory's octets");
     station->core = answer.core;
     puts("ok");
@@ -480,8 +448,6 @@ static bool frame(char **word)
     struct cihlomet_answer answer =
         cihlomet_hear(CIHLOMET_STATION(station), clock, room, update_high, update_high_count, update_low,
                       update_low_count, octets, count, ROWS(&high), ROWS(&low), OUT);
-    if (!was_outside())
-        same_lists();
     say_answer(&answer, octets, count);
     return true;
 }
@@ -493,7 +459,6 @@ static bool sent(char **word)
         return false;
     keep();
     struct cihlomet_answer answer = cihlomet_sent(CIHLOMET_STATION(station), clock, ROWS(&high), ROWS(&low), OUT);
-    same_lists();
     same(station->masters, before.station.masters, CIHLOMET_ADDRESSES, "sent touched the set of masters");
     same(station->memory, before.station.memory, CIHLOMET_LONGEST, "sent touched the memory");
     say_answer(&answer, NULL, 0);
@@ -507,13 +472,12 @@ static bool slot(char **word)
         return false;
     keep();
     struct cihlomet_answer answer = cihlomet_slot(CIHLOMET_STATION(station), clock, ROWS(&high), ROWS(&low), OUT);
-    same_lists();
     same(station->memory, before.station.memory, CIHLOMET_LONGEST, "slot touched the memory");
     say_answer(&answer, NULL, 0);
     return true;
 }
 
-/* Numbers that stand for no case are refused 29, whatever else the station holds, unless it has stopped. */
+/* Numbers that stand for no case are refused 29, whatever else the station holds. */
 static void try_malformed(void)
 {
     struct cihlomet_core core = station->core;
@@ -521,14 +485,13 @@ static void try_malformed(void)
         uint8_t *number;
         uint8_t least;
     } cases[] = {
-        {&station->core.phase, 8}, {&station->core.served, 2},  {&station->core.sdn, 2},
-        {&station->core.bit, 2},   {&station->core.listens, 2}, {&station->core.own, 2}};
+        {&station->core.phase, 5}, {&station->core.served, 2}, {&station->core.sdn, 2}, {&station->core.bit, 2}};
     for (size_t i = 0; i < sizeof cases / sizeof cases[0]; i++) {
         *cases[i].number = (uint8_t)(cases[i].least + (core.acceptance & 127));
         keep();
         struct cihlomet_answer answer = cihlomet_sent(CIHLOMET_STATION(station), 0, ROWS(&high), ROWS(&low), OUT);
-        if (answer.refused != (station->core.phase == CIHLOMET_STOPPED ? 31 : 29))
-            stop("a number that means nothing is not refused 29, or not 31 where the station has stopped");
+        if (answer.refused != 29)
+            stop("a number that means nothing is not refused 29");
         same_all(&answer.core);
         station->core = core;
     }
@@ -543,39 +506,22 @@ static uint8_t next_master(void)
     return address;
 }
 
-/* PS, NS and MASTERS. */
-static void say_set(void)
+static bool show(char **word)
 {
+    static const char *const phases[] = {"idle", "awaited", "sdn", "check", "self"};
+    const struct cihlomet_core *core = &station->core;
     const char *comma = "";
-    printf("%u %u ", station->core.ps, next_master());
+    (void)word;
+    try_malformed();
+    if (core->phase > CIHLOMET_PASS_TO_SELF || core->ts > 126 || station->masters[core->ts] != 1)
+        stop("no phase, or no TS in the set");
+    printf("ok %s %u %u %u ", phases[core->phase], core->ts, core->ps, next_master());
     for (unsigned address = 0; address < CIHLOMET_ADDRESSES; address++) {
         if (station->masters[address] == 1) {
             printf("%s%u", comma, address);
             comma = ",";
         }
     }
-}
-
-/* The same while the set is absent. */
-static void say_no_set(void)
-{
-    absent(station);
-    printf("- - -");
-}
-
-static bool show(char **word)
-{
-    static const char *const phases[] = {"idle", "awaited", "sdn", "check", "self", "listen", "ready", "stopped"};
-    const struct cihlomet_core *core = &station->core;
-    (void)word;
-    try_malformed();
-    if (core->phase > CIHLOMET_STOPPED || core->ts > 126 || station->masters[core->ts] != 1)
-        stop("no phase, or no TS in the set");
-    printf("ok %s %u ", phases[core->phase], core->ts);
-    if (core->phase == CIHLOMET_LISTENING || core->phase == CIHLOMET_STOPPED)
-        say_no_set();
-    else
-        say_set();
     printf(" %u %u %u %u\n", core->high_confirmed, core->high_unconfirmed, core->low_confirmed, core->low_unconfirmed);
     return true;
 }

@@ -1,19 +1,18 @@
-// The decisions of a hold as functions of values: the time that is left, the choice of what is sent, what each act makes
-// of the core, and the core that a station begins with. Nothing here touches a row or an output. Assumes nothing.
+// The decisions of a hold as functions of values: the time that is left, the choice of what is sent, and what each act
+// makes of the core. Nothing here touches a row or an output. Assumes nothing.
 ghost use Rattle.std.specs.Prelude.{◌≡◌, ◌<◌};
 ghost use Rattle.times.specs.Times.{Small};
-ghost use Rattle.state.specs.World.{with_doing, with_hold, with_stranger, with_ps, with_learner, with_queue, queue_of};
+ghost use Rattle.state.specs.World.{with_doing, with_hold, with_stranger, with_ps, with_queue, queue_of};
 ghost use Rattle.state.specs.Request.{after_last, wait_for, sending as request_sending, once as request_once, status_of};
 ghost use Rattle.state.specs.Pass.{passing as pass_passing};
 ghost use Rattle.state.specs.Hold.{left as hold_left, choice as hold_choice, accepting as hold_accepting};
 ghost use Rattle.state.specs.Hold.{resting as hold_resting, beginning as hold_beginning};
-ghost use Rattle.state.specs.Fresh.{fresh_core, deaf as fresh_deaf};
 
 use clock::BitTime;
 use frame::Address;
 use queue::Queue;
-use state::{Choice, Core, Doing, Hold, Learner, Outcome, Phase, Priority};
-use times::{Sending, Settings};
+use state::{Choice, Core, Doing, Hold, Outcome, Phase, Priority};
+use times::Sending;
 
 // The core with one part changed.
 pub fn with_doing(d: Doing, c: Core) -> Core
@@ -45,14 +44,6 @@ pub fn with_ps(a: Address, c: Core) -> Core
 {
     let mut core = c;
     core.ps = a;
-    core
-}
-
-pub fn with_learner(x: Learner, c: Core) -> Core
-    ensures { result ≡ with_learner x c }
-{
-    let mut core = c;
-    core.learner = x;
     core
 }
 
@@ -253,53 +244,5 @@ pub fn status_of(o: Outcome) -> u8
         Outcome::Replied(status) => status,
         Outcome::Lost => request::NA,
         Outcome::Gone => 0,
-    }
-}
-
-// No own address and no token was heard.
-pub fn deaf(listens: bool) -> Learner
-    ensures { result ≡ fresh_deaf listens }
-{
-    Learner {
-        listens,
-        own: false,
-        learning: learn::fresh(),
-    }
-}
-
-// The core of a station that nothing has happened to, with its phase, what it learns by and its set of masters.
-pub fn fresh_core(
-    settings: Settings,
-    ts: Address,
-    phase: Phase,
-    learner: Learner,
-    masters: &[u8; 127],
-    high: Queue,
-    low: Queue,
-) -> Core
-    requires { ts.0 < 127 }
-    ensures { result
-        ≡ fresh_core settings ts.0 (record { phase = phase; learner = learner; masters = masters.now }) high
-        low }
-{
-    Core {
-        settings,
-        ts,
-        ps: ring::previous(masters, ts),
-        stranger: Address(state::NOBODY),
-        doing: Doing {
-            phase,
-            served: Priority::High,
-            sendings: 0,
-            sdn: false,
-        },
-        hold: Hold {
-            acceptance: BitTime(0),
-            before: BitTime(0),
-            begun: 0,
-        },
-        high,
-        low,
-        learner,
     }
 }

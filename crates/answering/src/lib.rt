@@ -11,7 +11,6 @@ mod counted;
 mod memory;
 mod news;
 mod reply;
-pub mod status;
 
 use control::Control;
 use frame::{Head, Part};

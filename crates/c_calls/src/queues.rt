@@ -1,10 +1,9 @@
-// The station's calls start, listen, submit, collect and reset for a caller that holds the station as numbers and lends
-// its arrays: the state that they mean goes through the call and is handed over again. Assumes nothing.
+// The station's calls start, submit, collect and reset for a caller that holds the station as numbers and lends its
+// arrays: the state that they mean goes through the call and is handed over again. Assumes nothing.
 ghost use Rattle.std.specs.Prelude.{◌≡◌, []};
 ghost use Rattle.state.specs.World.{rows, world_of};
 ghost use Rattle.state.specs.Calls.{start as calls_start, reset as calls_reset, submit as calls_submit};
 ghost use Rattle.state.specs.Calls.{collect as calls_collect};
-ghost use Rattle.state.specs.Fresh.{present, absent};
 ghost use Rattle.state.specs.Told.{lent, started_of, reset_of};
 ghost use Rattle.c_core.specs.Handover.{state_in, filled, starting, held, resetting, lodged, submitting, collecting};
 ghost use Rattle.c_core.specs.Numbers.{settings_in};
@@ -32,8 +31,7 @@ pub fn start(
     ensures { filled result masters.now started.new marks.new points.now
         memory.new
         ≡ starting
-        (started_of
-        (calls_start (settings_in settings) ts (present masters.now) points.now high low))
+        (started_of (calls_start (settings_in settings) ts masters.now points.now high low))
         masters.now started.old marks.old points.now
         memory.old }
 {
@@ -55,41 +53,6 @@ pub fn start(
     *started = set;
     *marks = bits;
     *memory = octets;
-    handover::started(a)
-}
-
-// Starts a station without a set of masters: it learns its ring by listening, and the set lent is filled too.
-pub fn listen(
-    settings: FlatSettings,
-    ts: u8,
-    masters: &mut [u8; 127],
-    started: &mut [u8; 127],
-    marks: &mut [u8; 127],
-    points: &[u8; 64],
-    memory: &mut [u8; 255],
-    high: usize,
-    low: usize,
-) -> FlatRenewed
-    ensures { filled result masters.new started.new marks.new points.now
-        memory.new
-        ≡ starting
-        (started_of (calls_start (settings_in settings) ts absent points.now high low))
-        masters.old started.old marks.old points.now
-        memory.old }
-{
-    let s = numbers::settings_in(settings);
-    let a = station::listen(s, Address(ts), Points(*points), high, low);
-    let alone = a.state.masters.0;
-    let kept = a.state.started.0;
-    let fresh = a.state.marks.0;
-    let empty = a.state.memory.octets;
-    if a.refused != 0 {
-        return handover::started(a);
-    }
-    *masters = alone;
-    *started = kept;
-    *marks = fresh;
-    *memory = empty;
     handover::started(a)
 }
 
@@ -147,7 +110,7 @@ pub fn collect(
 pub fn reset(
     n: Numbers,
     masters: &mut [u8; 127],
-    started: &mut [u8; 127],
+    started: &[u8; 127],
     marks: &mut [u8; 127],
     points: &[u8; 64],
     memory: &[u8; 255],
@@ -156,14 +119,14 @@ pub fn reset(
     low: &mut [u8],
     larea: &mut [u8],
 ) -> FlatRenewed
-    ensures { held result masters.new started.new marks.new points.now
+    ensures { held result masters.new started.now marks.new points.now
         memory.now (rows high.new harea.new)
         (rows low.new larea.new) []
         ≡ resetting n
         (reset_of
         (calls_reset
         (world_of
-        (state_in n masters.old started.old marks.old
+        (state_in n masters.old started.now marks.old
         points.now memory.now)
         (rows high.old harea.old)
         (rows low.old larea.old)))) }
@@ -171,10 +134,8 @@ pub fn reset(
     let s = handover::state_in(n, masters, started, marks, points, memory);
     let a = station::reset(s, high, harea, low, larea);
     let set = a.state.masters.0;
-    let first = a.state.started.0;
     let bits = a.state.marks.0;
     *masters = set;
-    *started = first;
     *marks = bits;
     handover::renewed(n, a)
 }

@@ -16,7 +16,7 @@ use clock::BitTime;
 pub fn hear<'a>(
     n: Numbers,
     masters: &mut [u8; 127],
-    started: &mut [u8; 127],
+    started: &[u8; 127],
     marks: &mut [u8; 127],
     points: &[u8; 64],
     memory: &mut [u8; 255],
@@ -31,14 +31,14 @@ pub fn hear<'a>(
     larea: &mut [u8],
     out: &mut [u8],
 ) -> FlatAnswer
-    ensures { held result masters.new started.new marks.new points.now
+    ensures { held result masters.new started.now marks.new points.now
         memory.new (rows high.new harea.new)
         (rows low.new larea.new) out.new
         ≡ holding n
         (standing
         (calls_frame clock (room_of room) first.now second.now octets.now
         (length out.old)
-        (world_in (core_in n) (kept_in n) masters.old started.old marks.old
+        (world_in (core_in n) (kept_in n) masters.old started.now marks.old
         points.now memory.old (rows high.old harea.old)
         (rows low.old larea.old))) out.old) }
 {
@@ -110,7 +110,7 @@ pub fn sent(
     handover::answer(n, a)
 }
 
-// The slot time expired; of a station outside the ring, TTO.
+// The slot time expired.
 pub fn slot(
     n: Numbers,
     masters: &mut [u8; 127],

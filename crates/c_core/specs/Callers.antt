@@ -10,7 +10,6 @@ use Rattle.state.specs.declared.State.{State}
 use Rattle.state.specs.World.{Rows, World, Called, rows, world_of, state_of}
 use Rattle.state.specs.Told.{telling, standing, world_in, lent, started_of, accepted_of, handed_back_of, heard_of, reset_of}
 use Rattle.state.specs.Runs.{Call, submit, frame, sent, slot, reset, collect}
-use Rattle.state.specs.Fresh.{Given}
 use Rattle.state.specs.Calls as Calls
 use Rattle.c_core.specs.declared.numbers.Numbers.{Numbers}
 use Rattle.c_core.specs.declared.numbers.FlatSettings.{FlatSettings}
@@ -47,12 +46,12 @@ row_for High k = k.high
 row_for Low k = k.low
 
 -- what is kept with all that a call may change
-abbrev pub keeps_with : Keeps → Numbers → List ℕ → List ℕ → List ℕ → List ℕ → Rows → Rows → Keeps
-keeps_with k core masters started marks memory high low =
+abbrev pub keeps_with : Keeps → Numbers → List ℕ → List ℕ → List ℕ → Rows → Rows → Keeps
+keeps_with k core masters marks memory high low =
     record {
       core = core;
       masters = masters;
-      started = started;
+      started = k.started;
       marks = marks;
       points = k.points;
       memory = memory;
@@ -61,8 +60,8 @@ keeps_with k core masters started marks memory high low =
     }
 
 unfoldable pub keeping : Priority → Numbers → Rows → Keeps → Keeps
-keeping High n r k = keeps_with k n k.masters k.started k.marks k.memory r k.low
-keeping Low n r k = keeps_with k n k.masters k.started k.marks k.memory k.high r
+keeping High n r k = keeps_with k n k.masters k.marks k.memory r k.low
+keeping Low n r k = keeps_with k n k.masters k.marks k.memory k.high r
 
 -- what a function answers; hear, sent and slot with what they leave in the output
 pub data Reply : Type 0 where
@@ -83,16 +82,16 @@ pub data Makes (k : Keeps) : Call → List ℕ → Reply → Keeps → Type 0 wh
       (lent p (state_in k.core k.masters k.started k.marks k.points k.memory) (row_for p k)))
       → Makes k (submit p (request_from service destination to from reference limit asks) x) [] (takes a)
       (keeping p a.core (rows row area) k)
-  by-frame : (clock room : ℕ) (first second octets out : List ℕ) {a : FlatAnswer}
-      {masters started marks memory : List ℕ} {high low : Rows} {out' : List ℕ}
-      → held a masters started marks k.points memory high low out'
+  by-frame : (clock room : ℕ) (first second octets out : List ℕ) {a : FlatAnswer} {masters marks memory : List ℕ}
+      {high low : Rows} {out' : List ℕ}
+      → held a masters k.started marks k.points memory high low out'
       ≡ holding k.core
       (standing
       (Calls.frame clock (room_of room) first second octets (length out)
       (world_in (core_in k.core) (kept_in k.core) k.masters k.started k.marks k.points k.memory
       k.high k.low)) out)
       → Makes k (frame clock (room_of room) first second octets (length out)) out (turns a out')
-      (keeps_with k a.core masters started marks memory high low)
+      (keeps_with k a.core masters marks memory high low)
   by-sent : (clock : ℕ) (out : List ℕ) {a : FlatAnswer} {marks : List ℕ} {high low : Rows} {out' : List ℕ}
       → held a k.masters k.started marks k.points k.memory high low out'
       ≡ holding k.core
@@ -101,7 +100,7 @@ pub data Makes (k : Keeps) : Call → List ℕ → Reply → Keeps → Type 0 wh
       (world_in (core_in k.core) (kept_in k.core) k.masters k.started k.marks k.points k.memory
       k.high k.low)) out)
       → Makes k (sent clock (length out)) out (turns a out')
-      (keeps_with k a.core k.masters k.started marks k.memory high low)
+      (keeps_with k a.core k.masters marks k.memory high low)
   by-slot : (clock : ℕ) (out : List ℕ) {a : FlatAnswer} {masters marks : List ℕ} {high low : Rows} {out' : List ℕ}
       → held a masters k.started marks k.points k.memory high low out'
       ≡ holding k.core
@@ -110,14 +109,14 @@ pub data Makes (k : Keeps) : Call → List ℕ → Reply → Keeps → Type 0 wh
       (world_in (core_in k.core) (kept_in k.core) k.masters k.started k.marks k.points k.memory
       k.high k.low)) out)
       → Makes k (slot clock (length out)) out (turns a out')
-      (keeps_with k a.core masters k.started marks k.memory high low)
-  by-reset : {a : FlatRenewed} {masters started marks : List ℕ} {high low : Rows}
-      → held a masters started marks k.points k.memory high low []
+      (keeps_with k a.core masters marks k.memory high low)
+  by-reset : {a : FlatRenewed} {masters marks : List ℕ} {high low : Rows}
+      → held a masters k.started marks k.points k.memory high low []
       ≡ resetting k.core
       (reset_of
       (Calls.reset
       (world_of (state_in k.core k.masters k.started k.marks k.points k.memory) k.high k.low)))
-      → Makes k reset [] (renews a) (keeps_with k a.core masters started marks k.memory high low)
+      → Makes k reset [] (renews a) (keeps_with k a.core masters marks k.memory high low)
   by-collect : (p : Priority) {a : FlatCollected}
       → lodged a k.masters k.started k.marks k.points k.memory (row_for p k).row (row_for p k).area
       ≡ collecting k.core p
@@ -126,13 +125,10 @@ pub data Makes (k : Keeps) : Call → List ℕ → Reply → Keeps → Type 0 wh
       → Makes k (collect p) [] (hands a) (keeping p a.core (row_for p k) k)
 
 -- a start that was accepted: its promise, of arrays with any content, and what is kept then, with rows as long as it was
--- told. `cihlomet_start` is given the set that it is lent; of `cihlomet_listen` the set is absent, and what is lent for
--- it is filled too
+-- told
 pub record Starts (k : Keeps) : Type 0 where
   pub settings : FlatSettings
   pub ts : ℕ
-  pub given : Given
-  pub masters : List ℕ
   pub started : List ℕ
   pub marks : List ℕ
   pub memory : List ℕ
@@ -140,8 +136,8 @@ pub record Starts (k : Keeps) : Type 0 where
   pub low : ℕ
   pub answer : FlatRenewed
   pub promise : filled answer k.masters k.started k.marks k.points k.memory
-      ≡ starting (started_of (Calls.start (settings_in settings) ts given k.points high low)) masters started marks
-      k.points memory
+      ≡ starting (started_of (Calls.start (settings_in settings) ts k.masters k.points high low)) k.masters started
+      marks k.points memory
   pub accepted : answer.refused ≡ 0
   pub core : k.core ≡ answer.core
   pub upper_row : length k.high.row ≡ SIZE * high

@@ -14,9 +14,9 @@ use Rattle.state.specs.declared.HandedBack.{HandedBack}
 use Rattle.state.specs.declared.Renewed.{Renewed}
 use Rattle.state.specs.declared.Heard.{Heard}
 use Rattle.state.specs.World.{Rows, Called, rows_of}
-use Rattle.state.specs.Told.{Leaves, Stands, accepted_of, handed_back_of, stops}
+use Rattle.state.specs.Told.{Leaves, Stands, accepted_of, handed_back_of}
 use Rattle.c_core.specs.declared.numbers.Numbers.{Numbers}
-use Rattle.c_core.specs.Numbers.{flag_number, core_in, kept_in, numbers_of, indication_of}
+use Rattle.c_core.specs.Numbers.{core_in, kept_in, numbers_of, indication_of}
 use Rattle.c_core.specs.declared.handover.FlatAccepted.{FlatAccepted}
 use Rattle.c_core.specs.declared.handover.FlatCollected.{FlatCollected}
 use Rattle.c_core.specs.declared.handover.FlatRenewed.{FlatRenewed}
@@ -87,7 +87,7 @@ unfoldable pub flat_renewed : Numbers → Renewed → FlatRenewed
 flat_renewed n a =
     record { refused = a.refused; core = numbers_after n a.refused a.state.core a.state.memory.kept }
 
--- a start is given no core: where it refuses, that of the blank state
+-- start is given no core: where it refuses, that of the blank state
 unfoldable pub flat_started : Renewed → FlatRenewed
 flat_started a = record { refused = a.refused; core = numbers_of a.state.core a.state.memory.kept }
 
@@ -95,7 +95,6 @@ unfoldable pub flat_answer : Numbers → Heard → FlatAnswer
 flat_answer n a =
     record {
       refused = a.refused;
-      stopped = flag_number (stops a.refused a.core.doing.phase);
       wait = a.wait.0;
       length = a.length;
       indication = indication_of a.indication;
@@ -175,8 +174,7 @@ resetting n l =
     l.answer.state.marks.0 l.answer.state.points.0 l.answer.state.memory.octets l.high l.low
     l.out
 
--- of both starts, the one by listening too: the arrays; an accepted one leaves them as the state has them, a refused one
--- leaves those that it fills
+-- of start: the arrays; a refused one leaves those that it fills
 pub record Filled : Type 0 where
   pub answer : FlatRenewed
   pub masters : List ℕ

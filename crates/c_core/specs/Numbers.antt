@@ -6,15 +6,12 @@ use Rattle.control.specs.Control.{fc}
 use Rattle.frame.specs.declared.Address.{Address}
 use Rattle.times.specs.declared.Settings.{Settings}
 use Rattle.queue.specs.declared.Queue.{Queue}
-use Rattle.state.specs.declared.Stage.{Stage}
-use Rattle.state.specs.declared.Stage.TheVariants.{Listening, Ready, Stopped}
 use Rattle.state.specs.declared.Phase.{Phase}
-use Rattle.state.specs.declared.Phase.TheVariants.{Idle, Awaited, Sdn, Check, ToSelf, Outside}
+use Rattle.state.specs.declared.Phase.TheVariants.{Idle, Awaited, Sdn, Check, ToSelf}
 use Rattle.state.specs.declared.Priority.{Priority}
 use Rattle.state.specs.declared.Priority.TheVariants.{High, Low}
 use Rattle.state.specs.declared.Doing.{Doing}
 use Rattle.state.specs.declared.Hold.{Hold}
-use Rattle.state.specs.declared.Learner.{Learner}
 use Rattle.state.specs.declared.Core.{Core}
 use Rattle.state.specs.declared.Kept.{Kept}
 use Rattle.state.specs.declared.Indication.{Indication}
@@ -25,26 +22,16 @@ use Rattle.c_core.specs.declared.numbers.Numbers.{Numbers}
 use Rattle.c_core.specs.declared.numbers.FlatIndication.{FlatIndication}
 
 -- ---- each case as its number, and a number as a case
-unfoldable pub stage_number : Stage → ℕ
-stage_number Listening = 5
-stage_number Ready = 6
-stage_number Stopped = 7
-
 unfoldable pub phase_number : Phase → ℕ
 phase_number Idle = 0
 phase_number Awaited = 1
 phase_number Sdn = 2
 phase_number Check = 3
 phase_number ToSelf = 4
-phase_number (Outside g) = stage_number g
 
 unfoldable pub phase_of : ℕ → Phase
 phase_of n =
-    pick (same n 1) Awaited
-    (pick (same n 2) Sdn
-    (pick (same n 3) Check
-    (pick (same n 4) ToSelf
-    (pick (same n 5) (Outside Listening) (pick (same n 6) (Outside Ready) (pick (same n 7) (Outside Stopped) Idle))))))
+    pick (same n 1) Awaited (pick (same n 2) Sdn (pick (same n 3) Check (pick (same n 4) ToSelf Idle)))
 
 unfoldable pub served_number : Priority → ℕ
 served_number High = 0
@@ -60,17 +47,12 @@ unfoldable pub flag_of : ℕ → Bool
 flag_of n = pick (same n 1) true false
 
 -- ---- numbers that stand for no case: then the station has TS 127, which every call refuses
-unfoldable pub unflagged : ℕ → ℕ → ℕ → ℕ → Bool
-unflagged sdn bit listens own =
-    pick (less 1 sdn) true (pick (less 1 bit) true (pick (less 1 listens) true (pick (less 1 own) true false)))
-
-unfoldable pub malformed : Numbers → Bool
-malformed n =
-    pick (less 7 n.phase) true
-    (pick (less 1 n.served) true (unflagged n.sdn n.bit n.listens n.own))
+unfoldable pub malformed : ℕ → ℕ → ℕ → ℕ → Bool
+malformed phase served sdn bit =
+    pick (less 4 phase) true (pick (less 1 served) true (pick (less 1 sdn) true (pick (less 1 bit) true false)))
 
 unfoldable pub ts_in : Numbers → Address
-ts_in n = pick (said (malformed n)) (record { 0 = 127 }) (record { 0 = n.ts })
+ts_in n = pick (said (malformed n.phase n.served n.sdn n.bit)) (record { 0 = 127 }) (record { 0 = n.ts })
 
 -- ---- settings from numbers, and the numbers of settings
 unfoldable pub settings_in : FlatSettings → Settings
@@ -117,14 +99,6 @@ unfoldable pub low_in : Numbers → Queue
 low_in n =
     record { places = n.lowplaces; first = n.lowfirst; confirmed = n.lowconfirmed; unconfirmed = n.lowunconfirmed }
 
-unfoldable pub learner_in : Numbers → Learner
-learner_in n =
-    record {
-      listens = flag_of n.listens;
-      own = flag_of n.own;
-      learning = record { sender = n.sender; holder = n.holder; size = n.size; run = n.run };
-    }
-
 unfoldable pub core_in : Numbers → Core
 core_in n =
     record {
@@ -136,7 +110,6 @@ core_in n =
       hold = hold_in n;
       high = high_in n;
       low = low_in n;
-      learner = learner_in n;
     }
 
 unfoldable pub kept_in : Numbers → Kept
@@ -168,12 +141,6 @@ numbers_of c k =
       source = k.source.0;
       bit = flag_number k.bit;
       length = k.length;
-      listens = flag_number c.learner.listens;
-      own = flag_number c.learner.own;
-      sender = c.learner.learning.sender;
-      holder = c.learner.learning.holder;
-      size = c.learner.learning.size;
-      run = c.learner.learning.run;
     }
 
 -- ---- an indication as numbers

@@ -1,8 +1,6 @@
 // What a station's calls take and hand over at the C boundary: a state from numbers and lent arrays, and each answer
 // as a struct of numbers. Where a call is refused, the core handed over is the one it was given. Assumes nothing.
 ghost use Rattle.std.specs.Prelude.{◌≡◌};
-ghost use Rattle.state.specs.Told.{stops};
-ghost use Rattle.c_core.specs.Numbers.{flag_number};
 ghost use Rattle.c_core.specs.Handover.{state_in, request_from, room_of, numbers_after, flat_accepted};
 ghost use Rattle.c_core.specs.Handover.{flat_collected, flat_renewed, flat_started, flat_answer};
 
@@ -11,9 +9,7 @@ use super::numbers::{FlatIndication, Numbers};
 use frame::{Address, Point};
 use request::Record;
 use ring::Masters;
-use state::{
-    Accepted, Core, HandedBack, Heard, Kept, Marks, Memory, Phase, Points, Renewed, State,
-};
+use state::{Accepted, Core, HandedBack, Heard, Kept, Marks, Memory, Points, Renewed, State};
 
 // What submit answers: the refusal or 0, and the place taken.
 #[repr(C)]
@@ -43,7 +39,7 @@ pub struct FlatCollected {
     pub core: Numbers,
 }
 
-// What both starts and reset answer: the refusal or 0.
+// What start and reset answer: the refusal or 0.
 #[repr(C)]
 #[derive(Drop)]
 pub struct FlatRenewed {
@@ -51,13 +47,12 @@ pub struct FlatRenewed {
     pub core: Numbers,
 }
 
-// What frame, sent and slot answer: the refusal or 0, 1 if the call stopped the station or 0, how many octets to send
-// and after which wait, and what is indicated.
+// What frame, sent and slot answer: the refusal or 0, how many octets to send and after which wait, and what is
+// indicated.
 #[repr(C)]
 #[derive(Drop)]
 pub struct FlatAnswer {
     pub refused: u8,
-    pub stopped: u8,
     pub wait: u32,
     pub length: usize,
     pub indication: FlatIndication,
@@ -135,19 +130,6 @@ fn numbers_after(n: Numbers, refused: u8, c: Core, k: Kept) -> Numbers
     n
 }
 
-// 1 if a call stopped the station, by its refusal and the phase that it leaves, or 0.
-fn stopped(refused: u8, p: Phase) -> u8
-    ensures { result ≡ flag_number (stops refused p) }
-{
-    if refused != 0 {
-        return 0;
-    }
-    if numbers::phase_number(p) == 7 {
-        return 1;
-    }
-    0
-}
-
 // An answer of submit.
 pub fn accepted(n: Numbers, a: Accepted) -> FlatAccepted
     ensures { result ≡ flat_accepted n a }
@@ -197,7 +179,7 @@ pub fn renewed(n: Numbers, a: Renewed) -> FlatRenewed
     }
 }
 
-// An answer of either start.
+// An answer of start.
 pub fn started(a: Renewed) -> FlatRenewed
     ensures { result ≡ flat_started a }
 {
@@ -215,12 +197,9 @@ pub fn answer(n: Numbers, a: Heard) -> FlatAnswer
 {
     let core = a.core;
     let kept = a.kept;
-    let doing = core.doing;
-    let phase = doing.phase;
     let indication = a.indication;
     FlatAnswer {
         refused: a.refused,
-        stopped: stopped(a.refused, phase),
         wait: a.wait.0,
         length: a.length,
         indication: numbers::indication(indication),

@@ -2,16 +2,14 @@
 // Every number is taken; where one stands for no case, the station has TS 127, which every call refuses. Assumes
 // nothing.
 ghost use Rattle.std.specs.Prelude.{◌≡◌};
-ghost use Rattle.c_core.specs.Numbers.{stage_number, phase_number, phase_of, served_number, served_of, flag_number};
-ghost use Rattle.c_core.specs.Numbers.{flag_of, unflagged as numbers_unflagged, malformed as numbers_malformed};
-ghost use Rattle.c_core.specs.Numbers.{ts_in, settings_in, settings_of, doing_in, hold_in, high_in, low_in, learner_in};
-ghost use Rattle.c_core.specs.Numbers.{core_in, kept_in, numbers_of, indication_of};
+ghost use Rattle.c_core.specs.Numbers.{phase_number, phase_of, served_number, served_of, flag_number, flag_of};
+ghost use Rattle.c_core.specs.Numbers.{malformed as numbers_malformed, ts_in, settings_in, settings_of, doing_in};
+ghost use Rattle.c_core.specs.Numbers.{hold_in, high_in, low_in, core_in, kept_in, numbers_of, indication_of};
 
 use clock::BitTime;
 use frame::{Address, Head, Part};
-use learn::Learning;
 use queue::Queue;
-use state::{Core, Doing, Hold, Indication, Kept, Learner, Phase, Priority, Stage};
+use state::{Core, Doing, Hold, Indication, Kept, Phase, Priority};
 use times::{Count, Settings};
 
 // A station's settings.
@@ -29,8 +27,7 @@ pub struct FlatSettings {
 }
 
 // The core of a station and what its memory keeps, as numbers. Phase is 0 Idle, 1 Reply awaited, 2 SDN going out, 3
-// Pass checked, 4 Pass to self, and outside the ring 5 Listening, 6 Ready, 7 Stopped; served is 0 for the high queue, 1
-// for the low; sdn, bit, listens and own are 0 or 1. How the ring is learned stands last.
+// Pass checked, 4 Pass to self; served is 0 for the high queue, 1 for the low; sdn and bit are 0 or 1.
 #[repr(C)]
 #[derive(Drop)]
 pub struct Numbers {
@@ -56,12 +53,6 @@ pub struct Numbers {
     pub source: u8,
     pub bit: u8,
     pub length: u16,
-    pub listens: u8,
-    pub own: u8,
-    pub sender: u8,
-    pub holder: u8,
-    pub size: u8,
-    pub run: u8,
 }
 
 // A request that is shown: indicated is 1, and its fields and where its data lie follow; or nothing, and indicated is
@@ -79,18 +70,7 @@ pub struct FlatIndication {
     pub count: usize,
 }
 
-fn stage_number(g: Stage) -> u8
-    ensures { result ≡ stage_number g }
-{
-    match g {
-        Stage::Listening => 5,
-        Stage::Ready => 6,
-        Stage::Stopped => 7,
-    }
-}
-
-// The number of a phase.
-pub fn phase_number(p: Phase) -> u8
+fn phase_number(p: Phase) -> u8
     ensures { result ≡ phase_number p }
 {
     match p {
@@ -99,7 +79,6 @@ pub fn phase_number(p: Phase) -> u8
         Phase::Sdn => 2,
         Phase::Check => 3,
         Phase::ToSelf => 4,
-        Phase::Outside(g) => stage_number(g),
     }
 }
 
@@ -117,15 +96,6 @@ fn phase_of(n: u8) -> Phase
     }
     if n == 4 {
         return Phase::ToSelf;
-    }
-    if n == 5 {
-        return Phase::Outside(Stage::Listening);
-    }
-    if n == 6 {
-        return Phase::Outside(Stage::Ready);
-    }
-    if n == 7 {
-        return Phase::Outside(Stage::Stopped);
     }
     Phase::Idle
 }
@@ -166,45 +136,30 @@ fn flag_of(n: u8) -> bool
     false
 }
 
-// Whether one of the flags is neither 0 nor 1.
-fn unflagged(sdn: u8, bit: u8, listens: u8, own: u8) -> bool
-    ensures { result ≡ numbers_unflagged sdn bit listens own }
+// Whether a number stands for no case.
+fn malformed(phase: u8, served: u8, sdn: u8, bit: u8) -> bool
+    ensures { result ≡ numbers_malformed phase served sdn bit }
 {
+    if 4 < phase {
+        return true;
+    }
+    if 1 < served {
+        return true;
+    }
     if 1 < sdn {
         return true;
     }
     if 1 < bit {
         return true;
     }
-    if 1 < listens {
-        return true;
-    }
-    if 1 < own {
-        return true;
-    }
     false
-}
-
-// Whether a number stands for no case.
-fn malformed(n: Numbers) -> bool
-    ensures { result ≡ numbers_malformed n }
-{
-    let phase = n.phase;
-    let served = n.served;
-    if 7 < phase {
-        return true;
-    }
-    if 1 < served {
-        return true;
-    }
-    unflagged(n.sdn, n.bit, n.listens, n.own)
 }
 
 fn ts_in(n: Numbers) -> Address
     ensures { result ≡ ts_in n }
 {
     let ts = n.ts;
-    if malformed(n) {
+    if malformed(n.phase, n.served, n.sdn, n.bit) {
         return Address(127);
     }
     Address(ts)
@@ -285,21 +240,6 @@ fn low_in(n: Numbers) -> Queue
     }
 }
 
-fn learner_in(n: Numbers) -> Learner
-    ensures { result ≡ learner_in n }
-{
-    Learner {
-        listens: flag_of(n.listens),
-        own: flag_of(n.own),
-        learning: Learning {
-            sender: n.sender,
-            holder: n.holder,
-            size: n.size,
-            run: n.run,
-        },
-    }
-}
-
 // The core that numbers mean.
 pub fn core_in(n: Numbers) -> Core
     ensures { result ≡ core_in n }
@@ -313,7 +253,6 @@ pub fn core_in(n: Numbers) -> Core
         hold: hold_in(n),
         high: high_in(n),
         low: low_in(n),
-        learner: learner_in(n),
     }
 }
 
@@ -332,15 +271,16 @@ pub fn kept_in(n: Numbers) -> Kept
 pub fn numbers_of(c: Core, k: Kept) -> Numbers
     ensures { result ≡ numbers_of c k }
 {
+    let hold = c.hold;
     let doing = c.doing;
     let phase = doing.phase;
     let served = doing.served;
-    let learner = c.learner;
-    let learning = learner.learning;
+    let high = c.high;
+    let low = c.low;
     Numbers {
         settings: settings_of(c.settings),
-        acceptance: c.hold.acceptance.0,
-        before: c.hold.before.0,
+        acceptance: hold.acceptance.0,
+        before: hold.before.0,
         ts: c.ts.0,
         ps: c.ps.0,
         stranger: c.stranger.0,
@@ -348,24 +288,18 @@ pub fn numbers_of(c: Core, k: Kept) -> Numbers
         served: served_number(served),
         sendings: doing.sendings,
         sdn: flag_number(doing.sdn),
-        begun: c.hold.begun,
-        highplaces: c.high.places,
-        highfirst: c.high.first,
-        highconfirmed: c.high.confirmed,
-        highunconfirmed: c.high.unconfirmed,
-        lowplaces: c.low.places,
-        lowfirst: c.low.first,
-        lowconfirmed: c.low.confirmed,
-        lowunconfirmed: c.low.unconfirmed,
+        begun: hold.begun,
+        highplaces: high.places,
+        highfirst: high.first,
+        highconfirmed: high.confirmed,
+        highunconfirmed: high.unconfirmed,
+        lowplaces: low.places,
+        lowfirst: low.first,
+        lowconfirmed: low.confirmed,
+        lowunconfirmed: low.unconfirmed,
         source: k.source.0,
         bit: flag_number(k.bit),
         length: k.length,
-        listens: flag_number(learner.listens),
-        own: flag_number(learner.own),
-        sender: learning.sender,
-        holder: learning.holder,
-        size: learning.size,
-        run: learning.run,
     }
 }
 

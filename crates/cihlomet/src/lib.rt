@@ -3,13 +3,11 @@
 ghost use Rattle.std.specs.Prelude.{◌≡◌, [], length};
 ghost use Rattle.frame.specs.Reading.{read as reading_read};
 ghost use Rattle.frame.specs.Format.{written, left};
-ghost use Rattle.choice.specs.Choice.{pick, less, said};
-ghost use Rattle.times.specs.Times.{standard, unruly, tto};
+ghost use Rattle.times.specs.Times.{standard};
 ghost use Rattle.state.specs.World.{rows, world_of};
 ghost use Rattle.state.specs.Calls.{start as calls_start, reset as calls_reset, submit as calls_submit};
 ghost use Rattle.state.specs.Calls.{collect as calls_collect, frame as calls_frame, sent as calls_sent};
 ghost use Rattle.state.specs.Calls.{slot as calls_slot};
-ghost use Rattle.state.specs.Fresh.{present, absent};
 ghost use Rattle.state.specs.Told.{lent, world_in, started_of, reset_of, standing};
 ghost use Rattle.c_core.specs.Numbers.{settings_in, settings_of, core_in, kept_in};
 ghost use Rattle.c_core.specs.Handover.{state_in, request_from, room_of, holding, filled, starting, held, resetting};
@@ -24,7 +22,6 @@ use c_core::{handover, numbers};
 use c_frames::{FlatFrame, FlatWritten};
 use frame::{Address, Fields};
 use state::Priority;
-use times::Reckoned;
 
 // Reads a frame.
 #[unsafe(no_mangle)]
@@ -103,8 +100,7 @@ pub extern "C" fn cihlomet_start(
     ensures { filled result masters.now started.new marks.new points.now
         memory.new
         ≡ starting
-        (started_of
-        (calls_start (settings_in settings) ts (present masters.now) points.now high low))
+        (started_of (calls_start (settings_in settings) ts masters.now points.now high low))
         masters.now started.old marks.old points.now
         memory.old }
 {
@@ -113,49 +109,12 @@ pub extern "C" fn cihlomet_start(
     )
 }
 
-// Starts a station without a set of masters: it learns its ring by listening, and the set lent is filled too.
-#[unsafe(no_mangle)]
-pub extern "C" fn cihlomet_listen(
-    settings: FlatSettings,
-    ts: u8,
-    masters: &mut [u8; 127],
-    started: &mut [u8; 127],
-    marks: &mut [u8; 127],
-    points: &[u8; 64],
-    memory: &mut [u8; 255],
-    high: usize,
-    low: usize,
-) -> FlatRenewed
-    ensures { filled result masters.new started.new marks.new points.now
-        memory.new
-        ≡ starting
-        (started_of (calls_start (settings_in settings) ts absent points.now high low))
-        masters.old started.old marks.old points.now
-        memory.old }
-{
-    queues::listen(
-        settings, ts, masters, started, marks, points, memory, high, low,
-    )
-}
-
-// TTO of settings and TS, for callers that keep it; 0 where a start refuses these.
-#[unsafe(no_mangle)]
-pub extern "C" fn cihlomet_tto(settings: FlatSettings, ts: u8) -> u32
-    ensures { result
-        ≡ pick (said (unruly (settings_in settings))) 0 (pick (less 126 ts) 0 (tto (settings_in settings) ts)) }
-{
-    match times::reckon(numbers::settings_in(settings), Address(ts)) {
-        Reckoned::Refused(_) => 0,
-        Reckoned::Reckon(t) => t.tto.0,
-    }
-}
-
 // Resets a station: confirms all unconfirmed requests DS, and begins afresh as it was started.
 #[unsafe(no_mangle)]
 pub extern "C" fn cihlomet_reset(
     n: Numbers,
     masters: &mut [u8; 127],
-    started: &mut [u8; 127],
+    started: &[u8; 127],
     marks: &mut [u8; 127],
     points: &[u8; 64],
     memory: &[u8; 255],
@@ -164,14 +123,14 @@ pub extern "C" fn cihlomet_reset(
     low: &mut [u8],
     larea: &mut [u8],
 ) -> FlatRenewed
-    ensures { held result masters.new started.new marks.new points.now
+    ensures { held result masters.new started.now marks.new points.now
         memory.now (rows high.new harea.new)
         (rows low.new larea.new) []
         ≡ resetting n
         (reset_of
         (calls_reset
         (world_of
-        (state_in n masters.old started.old marks.old
+        (state_in n masters.old started.now marks.old
         points.now memory.now)
         (rows high.old harea.old)
         (rows low.old larea.old)))) }
@@ -342,7 +301,7 @@ pub extern "C" fn cihlomet_collect_low(
 pub extern "C" fn cihlomet_hear<'a>(
     n: Numbers,
     masters: &mut [u8; 127],
-    started: &mut [u8; 127],
+    started: &[u8; 127],
     marks: &mut [u8; 127],
     points: &[u8; 64],
     memory: &mut [u8; 255],
@@ -357,14 +316,14 @@ pub extern "C" fn cihlomet_hear<'a>(
     larea: &mut [u8],
     out: &mut [u8],
 ) -> FlatAnswer
-    ensures { held result masters.new started.new marks.new points.now
+    ensures { held result masters.new started.now marks.new points.now
         memory.new (rows high.new harea.new)
         (rows low.new larea.new) out.new
         ≡ holding n
         (standing
         (calls_frame clock (room_of room) first.now second.now octets.now
         (length out.old)
-        (world_in (core_in n) (kept_in n) masters.old started.old marks.old
+        (world_in (core_in n) (kept_in n) masters.old started.now marks.old
         points.now memory.old (rows high.old harea.old)
         (rows low.old larea.old))) out.old) }
 {
@@ -405,7 +364,7 @@ pub extern "C" fn cihlomet_sent(
     )
 }
 
-// The slot time expired; of a station outside the ring, TTO.
+// The slot time expired.
 #[unsafe(no_mangle)]
 pub extern "C" fn cihlomet_slot(
     n: Numbers,

@@ -15,12 +15,11 @@ use Rattle.laid.proofs.Laws.{laid_nil, laid-start, laid-sets, laid-behind, lengt
 use Rattle.request.specs.Record.{SIZE}
 use Rattle.queue.specs.Queue.{AREA}
 use Rattle.typed_call.specs.declared.script.Call.{Call}
-use Rattle.typed_call.specs.Operands.{settings_of, ts_of, given_of, points_of, high_of, low_of}
+use Rattle.typed_call.specs.Operands.{settings_of, ts_of, masters_of, points_of, high_of, low_of}
 use Rattle.times.specs.declared.Settings.{Settings}
 use Rattle.state.specs.declared.State.{State}
 use Rattle.state.specs.declared.Renewed.{Renewed}
 use Rattle.state.specs.World.{Rows, rows}
-use Rattle.state.specs.Fresh.{Given}
 use Rattle.state.specs.Calls.{Started, Unstarted, Station, start}
 use Rattle.state.specs.Told.{Leaves, leaves, started_of}
 use Rattle.printed_lines.specs.declared.saying.Played.{Played}
@@ -63,10 +62,10 @@ unfolding pick
 step true n h f = refuses n refl h
 step false n h f = f refl
 
-pub begins : (t : Settings) (ts : ℕ) (g : Given) (points : List ℕ) (high low : ℕ)
-    → Begins (start t ts g points high low) high low
+pub begins : (t : Settings) (ts : ℕ) (masters points : List ℕ) (high low : ℕ)
+    → Begins (start t ts masters points high low) high low
 unfolding start
-begins t ts g points high low =
+begins t ts masters points high low =
     step _ 20 (omega arith)
     (λ _. step _ 21 (omega arith)
     (λ _. step _ 21 (omega arith)
@@ -151,7 +150,7 @@ unbegun c line h high harea low larea text b w f x =
 -- ---- a start
 start-begins : (line : List ℕ) → Begins (start_by line) (high_of line) (low_of line)
 unfolding start_by
-start-begins line = begins (settings_of line) (ts_of line) (given_of line) (points_of line) (high_of line) (low_of line)
+start-begins line = begins (settings_of line) (ts_of line) (masters_of line) (points_of line) (high_of line) (low_of line)
 
 -- the rows of an accepted one fit their arrays
 few-by : (t : Started) {a b : ℕ} → Begins t a b → (started_of t).refused ≡ 0 → (a ≤ 64) × (b ≤ 64)

@@ -11,7 +11,7 @@ use Rattle.typed.specs.Places.{LONGEST}
 use Rattle.typed_call.specs.declared.script.Call.{Call as Typed}
 use Rattle.typed_call.specs.declared.script.Call.TheVariants.{Unknown}
 use Rattle.typed_call.specs.Script.{call_of}
-use Rattle.typed_call.specs.Operands.{settings_of, ts_of, given_of, points_of, high_of, low_of}
+use Rattle.typed_call.specs.Operands.{settings_of, ts_of, masters_of, points_of, high_of, low_of}
 use Rattle.state.specs.declared.State.{State}
 use Rattle.state.specs.World.{World, world_of, state_of}
 use Rattle.state.specs.Calls.{Started, Unstarted, Station}
@@ -50,7 +50,7 @@ begun l s e =
     record {
       settings = settings_of l;
       ts = ts_of l;
-      given = given_of l;
+      masters = masters_of l;
       points = points_of l;
       high = high_of l;
       low = low_of l;

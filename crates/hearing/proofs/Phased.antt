@@ -6,16 +6,14 @@ use mathlib.Core.List.{List}
 use Rattle.frame.specs.Reading.{read}
 use Rattle.state.specs.declared.Core.{Core}
 use Rattle.state.specs.declared.Kept.{Kept}
-use Rattle.state.specs.declared.Heard.{Heard}
 use Rattle.state.specs.declared.Phase.{Phase}
 use Rattle.state.specs.declared.Phase.TheVariants.{Idle, Awaited, Sdn, Check, ToSelf}
 use Rattle.state.specs.World.{Rows, World, with_core, with_doing, with_site}
 use Rattle.state.specs.Hold.{resting, rest}
 use Rattle.state.specs.Refusals.{Sited}
-use Rattle.state.specs.Calls.{idle_read, awaited_read, heard}
-use Rattle.state.specs.World.{called, nothing}
+use Rattle.state.specs.Calls.{called, nothing, idle_read, awaited_read, heard}
 use Rattle.state.specs.Told.{world_in}
-use Rattle.hearing.specs.Hears.{Hears, Listening}
+use Rattle.hearing.specs.Hears.{Listening}
 
 module _ (clock : ℕ) (room : Bool) (first second s : List ℕ) (w : World) {p : Phase} where
   pub heard-idle : p ≡ Idle → heard p clock room first second s w ≡ idle_read clock room first second (read s) w
@@ -36,34 +34,13 @@ module _ (clock : ℕ) (room : Bool) (first second s : List ℕ) (w : World) {p 
   heard-self e = rw e
 
 -- "Any frame .. ends the check": the core rests first
-heard-check : (clock : ℕ) (room : Bool) (first second s : List ℕ) (c : Core) (k : Kept)
-    (masters t marks points octets : List ℕ) (high low : Rows) {p : Phase} {c' : Core} → p ≡ Check
-    → c' ≡ with_doing (resting c.doing) c
-    → heard p clock room first second s (world_in c k masters t marks points octets high low)
-    ≡ idle_read clock room first second (read s) (world_in c' k masters t marks points octets high low)
-unfolding heard rest with_core with_site
-heard-check clock room first second s c k masters t marks points octets high low e f = rw (e, f)
-
--- a frame that is taken as in Idle
-module _ (clock : ℕ) (room : Bool) (first second s : List ℕ) (p : Phase) {c : Core} {k : Kept}
-    {masters marks points octets : List ℕ} {high low : Rows} {out : List ℕ} {r : Heard}
-    {masters' marks' octets' : List ℕ} {high' low' : Rows} {out' : List ℕ} where
-  pub hears-idle : p ≡ Idle
-      → Hears (idle_read clock room first second (read s)) c k masters marks points octets high low out r masters' marks'
-      octets' high' low' out'
-      → Hears (heard p clock room first second s) c k masters marks points octets high low out r masters' marks' octets'
-      high' low' out'
-  hears-idle e h = record { told = λ t. rw (heard-idle clock room first second s _ e) (h.told t) }
-
-  pub hears-check : (b : Core) → p ≡ Check → c ≡ with_doing (resting b.doing) b
-      → Hears (idle_read clock room first second (read s)) c k masters marks points octets high low out r masters' marks'
-      octets' high' low' out'
-      → Hears (heard p clock room first second s) b k masters marks points octets high low out r masters' marks' octets'
-      high' low' out'
-  hears-check b e f h =
-      record {
-        told = λ t. rw (heard-check clock room first second s b k masters t marks points octets high low e f) (h.told t);
-      }
+module _ (clock : ℕ) (room : Bool) (first second s : List ℕ) (c : Core) (k : Kept)
+    (masters t marks points octets : List ℕ) (high low : Rows) {p : Phase} {c' : Core} where
+  pub heard-check : p ≡ Check → c' ≡ with_doing (resting c.doing) c
+      → heard p clock room first second s (world_in c k masters t marks points octets high low)
+      ≡ idle_read clock room first second (read s) (world_in c' k masters t marks points octets high low)
+  unfolding heard rest with_core with_site
+  heard-check e f = rw (e, f)
 
 sited-resting : {c : Core} {high low : Rows} → Sited c high low → Sited (with_doing (resting c.doing) c) high low
 unfolding with_doing

@@ -1,5 +1,5 @@
--- How a frame keeps to its definition, in the ring but for the set of masters as started, which it leaves alone; and what
--- is known where it is not refused. Assumes nothing.
+-- How a frame keeps to its definition, but for the set of masters as started, which it leaves alone; and what is known
+-- where it is not refused. Assumes nothing.
 use Rattle.std.specs.Prelude.{ℕ, ◌≤◌, ◌≡◌, List, length}
 use Rattle.frame.specs.declared.Fields.{Fields}
 use Rattle.frame.specs.declared.Fields.TheVariants.{Frame}
@@ -9,7 +9,6 @@ use Rattle.state.specs.declared.Kept.{Kept}
 use Rattle.state.specs.declared.Heard.{Heard}
 use Rattle.state.specs.World.{Rows, World, Called}
 use Rattle.state.specs.Answering.{UPDATE, Readable}
-use Rattle.state.specs.Fresh.{stopped, cleared}
 use Rattle.state.specs.Refusals.{Sited}
 use Rattle.state.specs.Told.{stands, standing, world_in}
 
@@ -18,25 +17,6 @@ pub record Hears (f : World → Called) (c : Core) (k : Kept) (masters marks poi
   pub told : (t : List ℕ)
       → stands r masters' t marks' points octets' high' low' out'
       ≡ standing (f (world_in c k masters t marks points octets high low)) out
-
--- of a frame outside the ring, which leaves the active access points and the octets of the remembered reply alone
-pub record Outer (f : World → Called) (c : Core) (k : Kept) (masters started marks : List ℕ) (high low : Rows)
-    (out : List ℕ) (r : Heard) (masters' started' marks' : List ℕ) (high' low' : Rows) (out' : List ℕ) : Type 0 where
-  pub told : (points octets : List ℕ)
-      → stands r masters' started' marks' points octets high' low' out'
-      ≡ standing (f (world_in c k masters started marks points octets high low)) out
-
--- of a stop, from a stage outside the ring
-pub record Halts (c : Core) (high low : Rows) (r : Heard) (masters' started' marks' : List ℕ) (high' low' : Rows) : Type 0 where
-  pub told : (k : Kept) (masters started marks points octets out : List ℕ)
-      → stands r masters' started' marks' points octets high' low' out
-      ≡ standing (cleared (stopped c.ts.0) (world_in c k masters started marks points octets high low)) out
-
--- and of one that also sends nothing
-pub record Unsent (f : World → Called) (c : Core) (k : Kept) (masters started marks : List ℕ) (high low : Rows) (r : Heard)
-    (masters' started' marks' : List ℕ) (high' low' : Rows) : Type 0 where
-  pub told : (out : List ℕ)
-      → Outer f c k masters started marks high low out r masters' started' marks' high' low' out
 
 -- the core, the rows, the memory and the buffers are in order
 pub record Listening (c : Core) (k : Kept) (high low : Rows) (first second out : List ℕ) : Type 0 where

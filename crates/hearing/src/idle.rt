@@ -3,14 +3,13 @@ ghost use Rattle.std.specs.Prelude.{◌≡◌};
 ghost use Rattle.frame.specs.Reading.{read as reading_read};
 ghost use Rattle.times.specs.Times.{Small};
 ghost use Rattle.state.specs.World.{rows};
-ghost use Rattle.state.specs.Calls.{idle as calls_idle, idle_read};
-ghost use Rattle.state.specs.Listening.{kind_at, kind_in, responder as listening_responder};
+ghost use Rattle.state.specs.Calls.{responder as calls_responder, idle as calls_idle, idle_read};
 ghost use Rattle.hearing.specs.Hears.{Hears, Listening, Sound};
 
 use clock::BitTime;
 use control::Kind;
 use frame::{Answer, Fields, Part};
-use state::{Core, Heard, Indication, Kept, Moved, Phase, Responder, Spoken, Stage};
+use state::{Core, Heard, Indication, Kept, Moved, Responder, Spoken};
 use times::Sending;
 
 // What an act on the site leaves, as what was heard.
@@ -39,7 +38,7 @@ pub fn moved(m: Moved, kept: Kept) -> Heard
 }
 
 // What is answered to a request, as what was heard.
-pub fn spoken(core: Core, s: Spoken) -> Heard
+fn spoken(core: Core, s: Spoken) -> Heard
     ensures { result
         ≡ record {
           refused = 0;
@@ -63,42 +62,16 @@ pub fn spoken(core: Core, s: Spoken) -> Heard
     }
 }
 
-fn kind_at(g: Stage) -> Kind
-    ensures { result ≡ kind_at g }
-{
-    match g {
-        Stage::Listening => Kind::NotReady,
-        Stage::Ready => Kind::Ready,
-        Stage::Stopped => Kind::NotReady,
-    }
-}
-
-// The station type: in the ring, or, outside it, by the stage.
-fn kind_in(phase: Phase) -> Kind
-    ensures { result ≡ kind_in phase }
-{
-    match phase {
-        Phase::Idle => Kind::InRing,
-        Phase::Awaited => Kind::InRing,
-        Phase::Sdn => Kind::InRing,
-        Phase::Check => Kind::InRing,
-        Phase::ToSelf => Kind::InRing,
-        Phase::Outside(g) => kind_at(g),
-    }
-}
-
-// What this master answers as: TS, its station type, after min TSDR.
-pub fn responder(c: Core) -> Responder
+// What this master answers as: TS, a station in the ring, after min TSDR.
+fn responder(c: Core) -> Responder
     requires { Small c.settings }
-    ensures { result ≡ listening_responder c }
+    ensures { result ≡ calls_responder c }
 {
     let ts = c.ts;
-    let doing = c.doing;
-    let phase = doing.phase;
     let wait = acts::wait_for(c, Sending::Reply);
     Responder {
         ts,
-        kind: kind_in(phase),
+        kind: Kind::InRing,
         wait,
     }
 }

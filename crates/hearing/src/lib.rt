@@ -2,12 +2,9 @@
 ghost use Rattle.state.specs.World.{rows};
 ghost use Rattle.state.specs.Calls.{heard};
 ghost use Rattle.phases.specs.Underway.{Underway};
-ghost use Rattle.state.specs.Told.{stands, standing, world_in};
-ghost use Rattle.hearing.specs.Hears.{Listening};
-ghost use Rattle.std.specs.Prelude.{◌≡◌};
+ghost use Rattle.hearing.specs.Hears.{Hears, Listening};
 
 pub mod idle;
-pub mod outside;
 
 use clock::BitTime;
 use state::{Core, Heard, Kept, Phase};
@@ -22,7 +19,6 @@ pub fn hear<'a>(
     c: Core,
     k: Kept,
     masters: &mut [u8; 127],
-    started: &mut [u8; 127],
     marks: &mut [u8; 127],
     points: &[u8; 64],
     octets: &mut [u8; 255],
@@ -35,14 +31,13 @@ pub fn hear<'a>(
     requires { (Listening c k (rows high.old harea.old) (rows low.old larea.old) first.now second.now
         out.old)
         × (Underway c) }
-    ensures { stands result masters.new started.new marks.new points.now
-        octets.new (rows high.new harea.new)
-        (rows low.new larea.new) out.new
-        ≡ standing
-        (heard c.doing.phase clock.0 room first.now second.now s.now
-        (world_in c k masters.old started.old marks.old points.now
-        octets.old (rows high.old harea.old)
-        (rows low.old larea.old))) out.old }
+    ensures { Hears
+        (heard c.doing.phase clock.0 room first.now second.now s.now) c k
+        masters.old marks.old points.now octets.old
+        (rows high.old harea.old) (rows low.old larea.old)
+        out.old result masters.new marks.new octets.new
+        (rows high.new harea.new) (rows low.new larea.new)
+        out.new }
 {
     let doing = c.doing;
     let phase = doing.phase;
@@ -63,11 +58,6 @@ pub fn hear<'a>(
         }
         Phase::ToSelf => {
             return idle::moved(tokens::quiet(c), k);
-        }
-        Phase::Outside(g) => {
-            return outside::outside(
-                g, clock, s, c, k, masters, started, marks, high, harea, low, larea, out,
-            );
         }
     }
     idle::idle_read(

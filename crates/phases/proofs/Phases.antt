@@ -8,15 +8,13 @@ use Rattle.frame.specs.declared.Answer.TheVariants.{Refused, Read}
 use Rattle.frame.specs.declared.Fields.{Fields}
 use Rattle.frame.specs.declared.Part.{Part}
 use Rattle.frame.specs.Reading.{shown}
-use Rattle.state.specs.declared.Stage.{Stage}
 use Rattle.state.specs.declared.Phase.{Phase}
-use Rattle.state.specs.declared.Phase.TheVariants.{Idle, Awaited, Sdn, Check, ToSelf, Outside}
+use Rattle.state.specs.declared.Phase.TheVariants.{Idle, Awaited, Sdn, Check, ToSelf}
 use Rattle.state.specs.declared.Outcome.TheVariants.{Gone}
 use Rattle.state.specs.World.{Site, Done, still}
 use Rattle.state.specs.Request.{record_of, judged}
 use Rattle.state.specs.Pass.{recheck}
 use Rattle.state.specs.Hold.{begin, ended, retry, concluded}
-use Rattle.state.specs.Listening.{claim}
 use Rattle.state.specs.Calls.{slot_in, sent_in, awaited_read}
 
 module _ (clock : ℕ) (s : Site) {p : Phase} where
@@ -40,10 +38,6 @@ module _ (clock : ℕ) (s : Site) {p : Phase} where
   unfolding slot_in
   slot-self e = rw e
 
-  pub slot-outside : {g : Stage} → p ≡ Outside g → slot_in p clock s ≡ claim clock s
-  unfolding slot_in
-  slot-outside e = rw e
-
   pub sent-idle : p ≡ Idle → sent_in p clock s ≡ still s
   unfolding sent_in
   sent-idle e = rw e
@@ -63,10 +57,6 @@ module _ (clock : ℕ) (s : Site) {p : Phase} where
   pub sent-self : p ≡ ToSelf → sent_in p clock s ≡ begin clock s
   unfolding sent_in
   sent-self e = rw e
-
-  pub sent-outside : {g : Stage} → p ≡ Outside g → sent_in p clock s ≡ still s
-  unfolding sent_in
-  sent-outside e = rw e
 
 -- a frame while a reply is awaited, by how it was read
 module _ (clock : ℕ) (s : List ℕ) (x : Site) {r : Answer} where

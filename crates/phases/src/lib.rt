@@ -45,9 +45,6 @@ pub fn slot_in(
         Phase::Sdn => tokens::quiet(c),
         Phase::Check => tokens::recheck(c, masters, out),
         Phase::ToSelf => tokens::quiet(c),
-        Phase::Outside(_) => {
-            tokens::claim(clock, c, masters, marks, high, harea, low, larea, out)
-        }
     }
 }
 
@@ -92,7 +89,6 @@ pub fn sent_in(
         ),
         Phase::Check => tokens::quiet(c),
         Phase::ToSelf => serve::begin(clock, c, masters, marks, high, harea, low, larea, out),
-        Phase::Outside(_) => tokens::quiet(c),
     }
 }
 

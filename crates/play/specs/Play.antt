@@ -4,7 +4,7 @@ use Rattle.std.specs.Prelude.{ℕ, List, [], ◌∷◌}
 use Rattle.typed_call.specs.declared.script.Call.{Call}
 use Rattle.typed_call.specs.declared.script.Call.TheVariants.{Unknown, Start, Submit, Frame, Sent, Slot, Reset}
 use Rattle.typed_call.specs.declared.script.Call.TheVariants.{Collect, Show}
-use Rattle.typed_call.specs.Operands.{settings_of, ts_of, given_of, points_of, high_of, low_of, queue_of, request_of, data_of}
+use Rattle.typed_call.specs.Operands.{settings_of, ts_of, masters_of, points_of, high_of, low_of, queue_of, request_of, data_of}
 use Rattle.typed_call.specs.Operands.{clock_of, room_of, first_of, second_of, heard_of}
 use Rattle.printed.specs.Printed.{shown_line}
 use Rattle.state.specs.declared.State.{State}
@@ -16,7 +16,7 @@ use Rattle.printed_lines.specs.Saying.{unknown_line, plain_of, answer_of, handed
 
 -- `start`, which is given no station
 unfoldable pub start_by : List ℕ → Started
-start_by l = start (settings_of l) (ts_of l) (given_of l) (points_of l) (high_of l) (low_of l)
+start_by l = start (settings_of l) (ts_of l) (masters_of l) (points_of l) (high_of l) (low_of l)
 
 -- `submit QUEUE SERVICE DA DSAP SSAP DATA`
 unfoldable pub submit_by : List ℕ → Runs.Call

@@ -15,19 +15,18 @@ use state::{Renewed, State};
 use typed_call::script::Call;
 use typed_call::{operands, table};
 
-// Starts a station, with its set of masters or to learn it by listening.
+// Starts a station.
 pub fn start(line: &[u8]) -> Renewed
     ensures { result ≡ started_of (start_by line.now) }
 {
-    let settings = operands::settings(line);
-    let ts = operands::ts(line);
-    let points = operands::points(line);
-    let high = operands::high(line);
-    let low = operands::low(line);
-    if operands::listens(line) {
-        return station::listen(settings, ts, points, high, low);
-    }
-    station::start(settings, ts, operands::masters(line), points, high, low)
+    station::start(
+        operands::settings(line),
+        operands::ts(line),
+        operands::masters(line),
+        operands::points(line),
+        operands::high(line),
+        operands::low(line),
+    )
 }
 
 // Submits a request.

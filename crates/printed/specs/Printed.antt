@@ -7,10 +7,8 @@ use Rattle.request.specs.declared.Record.{Record}
 use Rattle.frame.specs.Access.{NONE, point_of}
 use Rattle.queue.specs.declared.Queue.{Queue}
 use Rattle.ring.specs.Ring.{member, next_of}
-use Rattle.state.specs.declared.Stage.{Stage}
-use Rattle.state.specs.declared.Stage.TheVariants.{Listening, Ready, Stopped}
 use Rattle.state.specs.declared.Phase.{Phase}
-use Rattle.state.specs.declared.Phase.TheVariants.{Idle, Awaited, Sdn, Check, ToSelf, Outside}
+use Rattle.state.specs.declared.Phase.TheVariants.{Idle, Awaited, Sdn, Check, ToSelf}
 use Rattle.state.specs.declared.Core.{Core}
 use Rattle.state.specs.declared.Indication.{Indication}
 use Rattle.state.specs.declared.Indication.TheVariants.{None, Shown}
@@ -115,18 +113,6 @@ w-check = 0x63 ∷ (0x68 ∷ (0x65 ∷ (0x63 ∷ (0x6B ∷ []))))
 abbrev pub w-self : List ℕ
 w-self = 0x73 ∷ (0x65 ∷ (0x6C ∷ (0x66 ∷ [])))
 
--- "listen"
-abbrev pub w-listen : List ℕ
-w-listen = 0x6C ∷ (0x69 ∷ (0x73 ∷ (0x74 ∷ (0x65 ∷ (0x6E ∷ [])))))
-
--- "ready"
-abbrev pub w-ready : List ℕ
-w-ready = 0x72 ∷ (0x65 ∷ (0x61 ∷ (0x64 ∷ (0x79 ∷ []))))
-
--- "stopped"
-abbrev pub w-stopped : List ℕ
-w-stopped = 0x73 ∷ (0x74 ∷ (0x6F ∷ (0x70 ∷ (0x70 ∷ (0x65 ∷ (0x64 ∷ []))))))
-
 -- a word with a space before it
 abbrev pub spaced : List ℕ → List ℕ
 spaced w = space ++ w
@@ -163,19 +149,13 @@ status_word n =
     (pick (same n 16) w-NA
     (pick (same n 17) w-DS w-none))))))))))
 
--- "`PHASE`: `idle`, `awaited`, `sdn`, `check`, `self`"; of order 2, "PHASE `listen`, `ready`, `stopped`"
-unfoldable pub stage_word : Stage → List ℕ
-stage_word Listening = w-listen
-stage_word Ready = w-ready
-stage_word Stopped = w-stopped
-
+-- "`PHASE`: `idle`, `awaited`, `sdn`, `check`, `self`"
 unfoldable pub phase_word : Phase → List ℕ
 phase_word Idle = w-idle
 phase_word Awaited = w-awaited
 phase_word Sdn = w-sdn
 phase_word Check = w-check
 phase_word ToSelf = w-self
-phase_word (Outside g) = stage_word g
 
 -- an access point or none
 unfoldable pub point_word : ℕ → List ℕ
@@ -204,14 +184,9 @@ indicating (Shown h p) octets =
     ++ (ends h.destination.0 h.source.0 (point_of h.to) (point_of h.from) ++ spaced
     (shown (data_of octets p)))))
 
--- of order 2: "A `frame` that stops the station prints ` stopped` at the end of its line"
-unfoldable pub stopping : Bool → List ℕ
-stopping stopped = pick stopped (spaced w-stopped) []
-
 -- the line of frame, sent and slot: "`ok`, then what was sent, then what is indicated"
-unfoldable pub done_line : Bool → ℕ → List ℕ → Indication → List ℕ → List ℕ
-done_line stopped wait x i octets =
-    w-ok ++ (sending wait x ++ (indicating i octets ++ (stopping stopped ++ newline)))
+unfoldable pub done_line : ℕ → List ℕ → Indication → List ℕ → List ℕ
+done_line wait x i octets = w-ok ++ (sending wait x ++ (indicating i octets ++ newline))
 
 -- of order 6: "` ref N` at the end of its line unless N is 0"
 unfoldable pub referring : ℕ → List ℕ
@@ -245,31 +220,12 @@ ns_of masters ts = pick (less ts 127) (next_of masters ts) ts
 unfoldable pub counts : Queue → List ℕ
 counts q = spaced (numeral q.confirmed) ++ spaced (numeral q.unconfirmed)
 
--- of order 2: "while the set is absent (`listen`, `stopped`)"
-unfoldable pub absent_at : Stage → Bool
-absent_at Listening = true
-absent_at Ready = false
-absent_at Stopped = true
-
-unfoldable pub is_absent : Phase → Bool
-is_absent Idle = false
-is_absent Awaited = false
-is_absent Sdn = false
-is_absent Check = false
-is_absent ToSelf = false
-is_absent (Outside g) = absent_at g
-
--- `PS NS MASTERS`; of an absent set "PS, NS and MASTERS are printed as `-`"
-unfoldable pub ring_words : Bool → ℕ → ℕ → List ℕ → List ℕ
-ring_words absent ps ns masters =
-    pick absent (spaced w-none ++ (spaced w-none ++ spaced w-none))
-    (spaced (numeral ps) ++ (spaced (numeral ns) ++ spaced (joined true 127 0 masters)))
-
 -- `ok PHASE TS PS NS MASTERS H h L l`
 unfoldable pub shown_line : Core → List ℕ → List ℕ
 shown_line c masters =
     w-ok
     ++ (spaced (phase_word c.doing.phase)
     ++ (spaced (numeral c.ts.0)
-    ++ (ring_words (is_absent c.doing.phase) c.ps.0 (ns_of masters c.ts.0) masters
-    ++ (counts c.high ++ (counts c.low ++ newline)))))
+    ++ (spaced (numeral c.ps.0)
+    ++ (spaced (numeral (ns_of masters c.ts.0))
+    ++ (spaced (joined true 127 0 masters) ++ (counts c.high ++ (counts c.low ++ newline)))))))

@@ -5,10 +5,9 @@ ghost use Rattle.frame.specs.Reading.{part};
 ghost use Rattle.laid.specs.Laid.{Lays};
 ghost use Rattle.typed.specs.Digits.{shown as digits_shown};
 ghost use Rattle.printed.specs.Numeral.{numeral};
-ghost use Rattle.printed.specs.Printed.{spaced, newline, w-indicate, service_word, priority_word, point_word};
+ghost use Rattle.printed.specs.Printed.{spaced, w-indicate, service_word, priority_word, point_word, refused_line};
 ghost use Rattle.printed.specs.Printed.{sending as printed_sending, ends as printed_ends};
-ghost use Rattle.printed.specs.Printed.{indicating as printed_indicating, stopping as printed_stopping};
-ghost use Rattle.printed.specs.Printed.{refused_line, done_line};
+ghost use Rattle.printed.specs.Printed.{indicating as printed_indicating, done_line};
 
 use super::numeral;
 use frame::{Head, Part};
@@ -228,33 +227,14 @@ pub fn indicating(i: Indication, s: &[u8], out: &mut [u8], at: usize) -> usize
     }
 }
 
-// Lays that the call stopped the station, if it did, and the line's end.
-fn stopping(stopped: bool, out: &mut [u8], at: usize) -> usize
-    requires { at + 9 ≤ length out.old }
-    ensures { Lays out.old at (printed_stopping stopped ++ newline) 9 result out.new }
-{
-    if stopped {
-        return laid::lay(b" stopped\n", out, at);
-    }
-    laid::lay(b"\n", out, at)
-}
-
 // Lays the line of frame, sent and slot.
-pub fn done(
-    stopped: bool,
-    wait: u32,
-    x: &[u8],
-    i: Indication,
-    s: &[u8],
-    out: &mut [u8],
-    at: usize,
-) -> usize
-    requires { at + (2 * length x.now + 2 * length s.now + 99) ≤ length out.old }
-    ensures { Lays out.old at (done_line stopped wait x.now i s.now)
-        (2 * length x.now + 2 * length s.now + 99) result out.new }
+pub fn done(wait: u32, x: &[u8], i: Indication, s: &[u8], out: &mut [u8], at: usize) -> usize
+    requires { at + (2 * length x.now + 2 * length s.now + 95) ≤ length out.old }
+    ensures { Lays out.old at (done_line wait x.now i s.now)
+        (2 * length x.now + 2 * length s.now + 95) result out.new }
 {
     let second = laid::lay(b"ok", out, at);
     let third = sending(wait, x, out, second);
     let fourth = indicating(i, s, out, third);
-    stopping(stopped, out, fourth)
+    laid::lay(b"\n", out, fourth)
 }

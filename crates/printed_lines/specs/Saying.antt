@@ -1,5 +1,5 @@
 -- The replay script: the line of a call by what its caller is told, and all that a call leaves. Assumes nothing.
-use Rattle.std.specs.Prelude.{ℕ, Bool, List, ◌∷◌, ◌++◌, length}
+use Rattle.std.specs.Prelude.{ℕ, List, ◌∷◌, ◌++◌, length}
 use Rattle.choice.specs.Choice.{pick, same}
 use Rattle.laid.specs.Laid.{laid}
 use Rattle.request.specs.declared.Record.{Record}
@@ -7,7 +7,7 @@ use Rattle.state.specs.declared.Priority.{Priority}
 use Rattle.state.specs.declared.State.{State}
 use Rattle.state.specs.declared.Indication.{Indication}
 use Rattle.state.specs.World.{Rows, Called, state_of, rows_of}
-use Rattle.state.specs.Told.{telling, stops, Leaves, leaves}
+use Rattle.state.specs.Told.{telling, Leaves, leaves}
 use Rattle.printed.specs.Printed.{w-ok, newline, refused_line, done_line, collected_line}
 use Rattle.printed_lines.specs.declared.saying.Played.{Played}
 
@@ -20,23 +20,21 @@ unfoldable pub plain_line : ℕ → List ℕ
 plain_line refused = pick (same refused 0) (w-ok ++ newline) (refused_line refused)
 
 -- the line of frame, sent and slot
-unfoldable pub answer_line : ℕ → Bool → ℕ → List ℕ → Indication → List ℕ → List ℕ
-answer_line refused stopped wait x i octets =
-    pick (same refused 0) (done_line stopped wait x i octets) (refused_line refused)
+unfoldable pub answer_line : ℕ → ℕ → List ℕ → Indication → List ℕ → List ℕ
+answer_line refused wait x i octets = pick (same refused 0) (done_line wait x i octets) (refused_line refused)
 
 -- the line of collect, whose data are those of the place in the queue's area
 unfoldable pub handed_line : ℕ → ℕ → Record → List ℕ → List ℕ
 handed_line refused place r area = pick (same refused 0) (collected_line place r area) (refused_line refused)
 
--- by the events of a call; whether it stopped the station also by the phase that it leaves
+-- by the events of a call
 unfoldable pub plain_of : Called → List ℕ
 plain_of d = plain_line (telling d.events).refused
 
 unfoldable pub answer_of : List ℕ → Called → List ℕ
 answer_of octets d =
-    answer_line (telling d.events).refused
-    (stops (telling d.events).refused d.world.site.core.doing.phase) (telling d.events).wait
-    (telling d.events).octets (telling d.events).indication octets
+    answer_line (telling d.events).refused (telling d.events).wait (telling d.events).octets
+    (telling d.events).indication octets
 
 unfoldable pub handed_of : Priority → Called → List ℕ
 handed_of p d =

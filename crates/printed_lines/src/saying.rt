@@ -35,23 +35,15 @@ pub fn plain(refused: u8, text: &mut [u8]) -> usize
 }
 
 // Lays the line of frame, sent and slot.
-fn answer(
-    refused: u8,
-    stopped: bool,
-    wait: u32,
-    x: &[u8],
-    i: Indication,
-    octets: &[u8],
-    text: &mut [u8],
-) -> usize
+fn answer(refused: u8, wait: u32, x: &[u8], i: Indication, octets: &[u8], text: &mut [u8]) -> usize
     requires { (length x.now ≤ 255) × (length octets.now ≤ 2048) × (8192 ≤ length text.old) }
-    ensures { Lays text.old 0
-        (answer_line refused stopped wait x.now i octets.now) 8192 result text.new }
+    ensures { Lays text.old 0 (answer_line refused wait x.now i octets.now)
+        8192 result text.new }
 {
     if refused != 0 {
         return phrases::refused(refused, text, 0);
     }
-    phrases::done(stopped, wait, x, i, octets, text, 0)
+    phrases::done(wait, x, i, octets, text, 0)
 }
 
 // Lays the line of what frame, sent or slot answered; what is to be sent stands at the start of the output.
@@ -59,8 +51,8 @@ pub fn told(a: Answer, out: &[u8], octets: &[u8], text: &mut [u8]) -> Played
     requires { (length out.now ≤ 255) × (length octets.now ≤ 2048) × (8192 ≤ length text.old) }
     ensures state_value { result.state ≡ a.state }
     ensures lays { Lays text.old 0
-        (answer_line a.refused a.stopped a.wait.0 (part out.now 0 a.length)
-        a.indication octets.now) 8192 result.length text.new }
+        (answer_line a.refused a.wait.0 (part out.now 0 a.length) a.indication
+        octets.now) 8192 result.length text.new }
 {
     let state = a.state;
     let wait = a.wait.0;
@@ -68,7 +60,6 @@ pub fn told(a: Answer, out: &[u8], octets: &[u8], text: &mut [u8]) -> Played
     let indication = a.indication;
     let length = answer(
         a.refused,
-        a.stopped,
         wait,
         read::part(out, 0, n),
         indication,

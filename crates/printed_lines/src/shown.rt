@@ -7,14 +7,13 @@ ghost use Rattle.laid.specs.Laid.{Lays};
 ghost use Rattle.typed.specs.Digits.{shown as digits_shown};
 ghost use Rattle.queue.specs.Queue.{AREA};
 ghost use Rattle.printed.specs.Numeral.{numeral};
-ghost use Rattle.printed.specs.Printed.{spaced, newline, comma, w-ok, service_word, status_word, stage_word, phase_word};
-ghost use Rattle.printed.specs.Printed.{point_word, referring, collected_line, joined as printed_joined, ns_of};
-ghost use Rattle.printed.specs.Printed.{absent_at, is_absent, ring_words, shown_line};
+ghost use Rattle.printed.specs.Printed.{spaced, newline, comma, w-ok, service_word, status_word, phase_word, point_word};
+ghost use Rattle.printed.specs.Printed.{referring, collected_line, joined as printed_joined, ns_of, shown_line};
 
 use frame::Address;
 use printed::{numeral, phrases};
 use request::Record;
-use state::{Core, Phase, Stage};
+use state::{Core, Phase};
 
 // A status's word: its length, then its octets.
 fn status_word(n: u8) -> [u8; 8]
@@ -64,17 +63,6 @@ fn status(n: u8, out: &mut [u8], at: usize) -> usize
     phrases::lay_word(status_word(n), out, at)
 }
 
-// The word of a stage outside the ring: its length, then its octets.
-fn stage_word(g: Stage) -> [u8; 8]
-    ensures { (part result 1 (get_or result 0 0) ≡ stage_word g) × (get_or result 0 0 ≤ 7) }
-{
-    match g {
-        Stage::Listening => [6, b'l', b'i', b's', b't', b'e', b'n', 0],
-        Stage::Ready => [5, b'r', b'e', b'a', b'd', b'y', 0, 0],
-        Stage::Stopped => [7, b's', b't', b'o', b'p', b'p', b'e', b'd'],
-    }
-}
-
 // A phase's word: its length, then its octets.
 fn phase_word(p: Phase) -> [u8; 8]
     ensures { (part result 1 (get_or result 0 0) ≡ phase_word p) × (get_or result 0 0 ≤ 7) }
@@ -85,7 +73,6 @@ fn phase_word(p: Phase) -> [u8; 8]
         Phase::Sdn => [3, b's', b'd', b'n', 0, 0, 0, 0],
         Phase::Check => [5, b'c', b'h', b'e', b'c', b'k', 0, 0],
         Phase::ToSelf => [4, b's', b'e', b'l', b'f', 0, 0, 0],
-        Phase::Outside(g) => stage_word(g),
     }
 }
 
@@ -252,55 +239,19 @@ fn counts(a: u8, b: u8, out: &mut [u8], at: usize) -> usize
     phrases::number(b, out, next)
 }
 
-// Lays the counts of both queues, confirmed and then not, and the line's end.
-fn queues(a: u8, b: u8, c: u8, d: u8, out: &mut [u8], at: usize) -> usize
-    requires { at + 17 ≤ length out.old }
+// Lays the masters and the counts of both queues, confirmed and then not, and the line's end.
+fn listed(masters: &[u8; 127], a: u8, b: u8, c: u8, d: u8, out: &mut [u8], at: usize) -> usize
+    requires { at + 526 ≤ length out.old }
     ensures { Lays out.old at
-        ((spaced (numeral a) ++ spaced (numeral b)) ++ ((spaced (numeral c) ++ spaced (numeral d)) ++ newline))
-        17 result out.new }
+        (spaced (printed_joined true 127 0 masters.now) ++
+        ((spaced (numeral a) ++ spaced (numeral b)) ++ ((spaced (numeral c) ++ spaced (numeral d)) ++ newline)))
+        526 result out.new }
 {
-    let second = counts(a, b, out, at);
-    let third = counts(c, d, out, second);
-    laid::lay(b"\n", out, third)
-}
-
-// Whether the set of masters is absent, at a stage outside the ring and in a phase.
-fn absent_at(g: Stage) -> bool
-    ensures { result ≡ absent_at g }
-{
-    match g {
-        Stage::Listening => true,
-        Stage::Ready => false,
-        Stage::Stopped => true,
-    }
-}
-
-fn is_absent(p: Phase) -> bool
-    ensures { result ≡ is_absent p }
-{
-    match p {
-        Phase::Idle => false,
-        Phase::Awaited => false,
-        Phase::Sdn => false,
-        Phase::Check => false,
-        Phase::ToSelf => false,
-        Phase::Outside(g) => absent_at(g),
-    }
-}
-
-// Lays PS, NS and the masters, or that there is no set.
-fn ring_words(absent: bool, ps: u8, ns: u8, masters: &[u8; 127], out: &mut [u8], at: usize) -> usize
-    requires { at + 517 ≤ length out.old }
-    ensures { Lays out.old at (ring_words absent ps ns masters.now) 517 result
-        out.new }
-{
-    if absent {
-        return laid::lay(b" - - -", out, at);
-    }
-    let second = phrases::number(ps, out, at);
-    let third = phrases::number(ns, out, second);
-    let fourth = laid::lay(b" ", out, third);
-    joined(masters, out, fourth)
+    let second = laid::lay(b" ", out, at);
+    let third = joined(masters, out, second);
+    let fourth = counts(a, b, out, third);
+    let fifth = counts(c, d, out, fourth);
+    laid::lay(b"\n", out, fifth)
 }
 
 // Lays the line of show, by the numbers of the core's fields.
@@ -322,16 +273,19 @@ fn station(
         (w-ok ++
         (spaced (phase_word p) ++
         (spaced (numeral ts) ++
-        (ring_words (is_absent p) ps ns masters.now ++
+        (spaced (numeral ps) ++
+        (spaced (numeral ns) ++
+        (spaced (printed_joined true 127 0 masters.now) ++
         ((spaced (numeral a) ++ spaced (numeral b)) ++
-        ((spaced (numeral c) ++ spaced (numeral d)) ++ newline)))))) 700 result
+        ((spaced (numeral c) ++ spaced (numeral d)) ++ newline)))))))) 700 result
         out.new }
 {
     let second = laid::lay(b"ok", out, at);
     let third = phase(p, out, second);
     let fourth = phrases::number(ts, out, third);
-    let fifth = ring_words(is_absent(p), ps, ns, masters, out, fourth);
-    queues(a, b, c, d, out, fifth)
+    let fifth = phrases::number(ps, out, fourth);
+    let sixth = phrases::number(ns, out, fifth);
+    listed(masters, a, b, c, d, out, sixth)
 }
 
 // Lays the line of show.

@@ -1,11 +1,11 @@
-// The station's refusals 20, 21, 22, 31 and 29: what start refuses, and what every other call refuses in a state, in lent
+// The station's refusals 20, 21, 22 and 29: what start refuses, and what every other call refuses in a state, in lent
 // rows and in buffers. Assumes nothing.
 ghost use Rattle.std.specs.Prelude.{◌≡◌, ◌*◌, ◌<◌, length};
 ghost use Rattle.choice.specs.Choice.{same};
 ghost use Rattle.ring.specs.Ring.{next_of};
 ghost use Rattle.request.specs.Record.{SIZE};
 ghost use Rattle.state.specs.World.{Rows, queue_of};
-ghost use Rattle.state.specs.Refusals.{Lawful, stopped_at, has_stopped, odd_in, unlike_in, in_flight, refusal_in};
+ghost use Rattle.state.specs.Refusals.{Lawful, odd_in, unlike_in, in_flight, refusal_in};
 ghost use Rattle.state.specs.Refusals.{unstartable as refusals_unstartable, unlent as refusals_unlent};
 ghost use Rattle.state.specs.Refusals.{cramped as refusals_cramped, unstarted as refusals_unstarted};
 ghost use Rattle.state.specs.Refusals.{misaddressed as refusals_misaddressed, overcounted as refusals_overcounted};
@@ -14,7 +14,7 @@ ghost use Rattle.state.specs.Refusals.{lawless as refusals_lawless, unsound as r
 use frame::Address;
 use queue::Queue;
 use request::Record;
-use state::{Core, Kept, Phase, Priority, Stage, UPDATE};
+use state::{Core, Kept, Phase, Priority, UPDATE};
 use times::Settings;
 
 // Whether start refuses settings, TS or the set of masters.
@@ -107,7 +107,6 @@ fn odd(c: Core, masters: &[u8; 127]) -> bool
         Phase::Sdn => waits(served, c),
         Phase::Check => alone(c, masters),
         Phase::ToSelf => !alone(c, masters),
-        Phase::Outside(_) => false,
     }
 }
 
@@ -164,7 +163,6 @@ fn unlike(phase: Phase, service: u8) -> bool
         Phase::Sdn => !sdn(service),
         Phase::Check => false,
         Phase::ToSelf => false,
-        Phase::Outside(_) => false,
     }
 }
 
@@ -172,32 +170,6 @@ fn sdn(service: u8) -> bool
     ensures { result ≡ same service 4 }
 {
     if service == request::SDN { true } else { false }
-}
-
-fn stopped_at(g: Stage) -> bool
-    ensures { result ≡ stopped_at g }
-{
-    match g {
-        Stage::Listening => false,
-        Stage::Ready => false,
-        Stage::Stopped => true,
-    }
-}
-
-// Whether a station has stopped: refusal 31.
-pub fn stopped(c: Core) -> bool
-    ensures { result ≡ has_stopped c.doing.phase }
-{
-    let doing = c.doing;
-    let phase = doing.phase;
-    match phase {
-        Phase::Idle => false,
-        Phase::Awaited => false,
-        Phase::Sdn => false,
-        Phase::Check => false,
-        Phase::ToSelf => false,
-        Phase::Outside(g) => stopped_at(g),
-    }
 }
 
 // The record being sent, or the one that would be.
@@ -270,9 +242,6 @@ pub fn refusal(
     }
     if cramped(out, first, second) {
         return 22;
-    }
-    if stopped(c) {
-        return 31;
     }
     if lawless(c, masters, started, k) {
         return 29;

@@ -6,11 +6,11 @@ use mathlib.Core.Logic.{◌⊎◌, inl, inr}
 use mathlib.Core.Path.{◌≡◌, refl, sym, ap, ◌∙◌}
 use native.Mathlib.Decide.{ℕ_discrete}
 use native.Mathlib.Omega.{arith}
-use lib.ListN.{length, get_or, set, replicate, length-replicate}
+use lib.ListN.{length, get_or, set}
 use lib.Seq.{get_or-set_same, get_or-set_other}
 use Rattle.choice.specs.Choice.{pick, less, same}
 use Rattle.choice.proofs.Rules.{same_true, same_false, true-less, false-less, pick_true, pick-false}
-use Rattle.ring.specs.Ring.{member, on, seek, next_of, previous_of, enter, remove, alone}
+use Rattle.ring.specs.Ring.{member, on, seek, next_of, previous_of, enter, remove}
 
 -- ---- entering and removing change one place
 pub member-enter : (l : List ℕ) (a : ℕ) → a < length l → member (enter l a) a ≡ true
@@ -22,10 +22,6 @@ zeroed : (l : List ℕ) (a : ℕ) → get_or (set l a 0) a 0 ≡ 0
 zeroed [] a = refl
 zeroed (x ∷ l) zero = refl
 zeroed (x ∷ l) (suc a) = zeroed l a
-
-pub member-alone : (a : ℕ) → a < 127 → member (alone a) a ≡ true
-unfolding alone
-member-alone a h = member-enter (replicate 127 0) a (rw (length-replicate {A = ℕ} 127 0) h)
 
 pub member-remove : (l : List ℕ) (a : ℕ) → member (remove l a) a ≡ false
 unfolding member remove

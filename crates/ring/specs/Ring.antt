@@ -1,6 +1,6 @@
 -- Document 01, "Pass": the set of masters, and the search for the next and the previous one. The set is a list of 127
 -- numbers, one for each address: 1 for a master. Assumes nothing.
-use Rattle.std.specs.Prelude.{ℕ, zero, suc, ◌+◌, ◌-◌, Bool, List, get_or, set, replicate}
+use Rattle.std.specs.Prelude.{ℕ, zero, suc, ◌+◌, ◌-◌, Bool, List, get_or, set}
 use Rattle.choice.specs.Choice.{pick, less, same}
 
 -- an address is in the set
@@ -29,7 +29,3 @@ enter l a = set l a 1
 
 unfoldable pub remove : List ℕ → ℕ → List ℕ
 remove l a = set l a 0
-
--- a set of one station alone
-unfoldable pub alone : ℕ → List ℕ
-alone a = enter (replicate 127 0) a

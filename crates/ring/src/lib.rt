@@ -2,7 +2,7 @@
 // one, one address after another. Nothing here knows a token. Assumes nothing.
 ghost use Rattle.std.specs.Prelude.{◌≡◌, ◌<◌, ◌≤◌, set};
 ghost use Rattle.ring.specs.Ring.{on as ring_on, seek as ring_seek, next_of, previous_of, enter as ring_enter};
-ghost use Rattle.ring.specs.Ring.{remove as ring_remove, member as ring_member, alone as ring_alone};
+ghost use Rattle.ring.specs.Ring.{remove as ring_remove, member as ring_member};
 
 use frame::Address;
 
@@ -85,12 +85,4 @@ pub fn remove(masters: &mut [u8; 127], a: Address)
     ensures { masters.new ≡ ring_remove masters.old a.0 }
 {
     write_place(masters, frame::wide(a.0), 0);
-}
-
-// The set becomes one station alone.
-pub fn alone(masters: &mut [u8; 127], a: Address)
-    ensures { masters.new ≡ ring_alone a.0 }
-{
-    *masters = [0; 127];
-    enter(masters, a);
 }

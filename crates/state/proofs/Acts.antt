@@ -22,20 +22,17 @@ use Rattle.state.specs.declared.Phase.TheVariants.{Awaited, Sdn, Check}
 use Rattle.state.specs.declared.Priority.{Priority}
 use Rattle.state.specs.declared.Priority.TheVariants.{High, Low}
 use Rattle.state.specs.declared.Choice.TheVariants.{Serve, PassOn}
-use Rattle.state.specs.declared.Core.{Core}
-use Rattle.state.specs.declared.Learner.{Learner}
 use Rattle.state.specs.declared.Outcome.{Outcome}
 use Rattle.state.specs.declared.Outcome.TheVariants.{Replied, Lost, Gone}
 use Rattle.state.specs.World.{Site, Event, accepted, begins, ends, sends, confirmed, collected, indicated}
-use Rattle.state.specs.World.{resets, aRequest, aToken, with_doing, with_stranger, with_learner, with_queue, queue_of, with_core}
+use Rattle.state.specs.World.{resets, aRequest, aToken, with_doing, with_stranger, with_queue, queue_of, with_core}
 use Rattle.state.specs.World.{rows_of, with_rows}
 use Rattle.state.specs.Request.{UNKNOWN, octets_in, record_of, after_last, wait_for, send_core, once, status_of, close_of}
 use Rattle.state.specs.Pass.{ns, token_to, pass_core, without}
 use Rattle.state.specs.Hold.{choice, rest, beginning, admit}
 use Rattle.state.specs.Answering as A
-use Rattle.state.specs.Fresh.{Fresh, count_of, fresh_core}
-use Rattle.state.specs.Listening.{responder, adopted, lone}
-use Rattle.state.proofs.Phases.{flight, away, quiet}
+use Rattle.state.specs.Calls.{responder, count_of, fresh_core}
+use Rattle.state.proofs.Phases.{flight}
 
 -- where a call stands between two of them
 pub data Point : Type 0 where
@@ -57,26 +54,9 @@ pub data Closing : Phase → Outcome → List ℕ → Type 0 where
   lost : Closing Awaited Lost []
   gone : Closing Sdn Gone []
 
--- a station that was started with a set of masters, and is in its ring; and one that begins so
-pub record Inside (c : Core) : Type 0 where
-  pub typed : c.learner.listens ≡ false
-  pub ring : away c.doing.phase ≡ false
-
-pub record Within (f : Fresh) : Type 0 where
-  pub typed : f.learner.listens ≡ false
-  pub ring : away f.phase ≡ false
-
--- what a station begins with heeds how it was started
-pub record Heir (c : Core) (f : Fresh) : Type 0 where
-  pub within : Inside c → Within f
-  pub learns : c.learner.listens ≡ true → f.learner.listens ≡ true
-
 -- ---- what a site becomes
 abbrev pub noted : ℕ → Site → Site
 noted a s = with_core (with_stranger (record { 0 = a }) s.core) s
-
-abbrev pub taught : Learner → Site → Site
-taught x s = with_core (with_learner x s.core) s
 
 abbrev pub sent_again : Site → Site
 sent_again s = with_core (with_doing (once s.core.doing) s.core) s
@@ -91,11 +71,11 @@ taking y r x s = took (queue_of y s.core) r x (rows_of y s).row (rows_of y s).ar
 abbrev pub dismissing : Priority → ℕ → Site → Left Queue
 dismissing y n s = confirm (queue_of y s.core) DS n [] (rows_of y s).row (rows_of y s).area
 
-abbrev pub anew : Fresh → Site → Site
-anew f s =
+abbrev pub anew : List ℕ → Site → Site
+anew masters s =
     record {
-      core = fresh_core s.core.settings s.core.ts.0 f s.core.high s.core.low;
-      masters = f.masters;
+      core = fresh_core s.core.settings s.core.ts.0 masters s.core.high s.core.low;
+      masters = masters;
       marks = replicate 127 UNKNOWN;
       high = s.high;
       low = s.low;
@@ -136,13 +116,9 @@ pub data Move (k : Type 0) : Point → Site → Point → Site → Type 0 where
       → Move k calm s passing (without s)
   spares : (s : Site) → flight s.core.doing.phase ≡ false
       → Move k halting s (clearing (count_of High s.core) (count_of Low s.core)) s
-  renews : (a b : ℕ) (f : Fresh) (s : Site) → (k → quiet f.phase ≡ true) → (k → Heir s.core f)
-      → (k → member f.masters s.core.ts.0 ≡ true) → s.core.high.unconfirmed ≡ 0 → s.core.low.unconfirmed ≡ 0
-      → Move k (clearing a b) s calm (anew f s)
-  learns : (x : Learner) (s : Site) → x.listens ≡ s.core.learner.listens → Move k calm s calm (taught x s)
-  adopts : (masters : List ℕ) (s : Site) → away s.core.doing.phase ≡ true
-      → (k → member masters s.core.ts.0 ≡ true) → Move k calm s calm (adopted masters s)
-  claims : (s : Site) → Move k free s free (lone s)
+  renews : (a b : ℕ) (masters : List ℕ) (s : Site) → (k → member masters s.core.ts.0 ≡ true)
+      → s.core.high.unconfirmed ≡ 0 → s.core.low.unconfirmed ≡ 0
+      → Move k (clearing a b) s calm (anew masters s)
 
 -- ---- acts
 pub data Act (k : Type 0) : Point → Site → Event → Point → Site → Type 0 where

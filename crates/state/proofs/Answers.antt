@@ -15,8 +15,7 @@ use Rattle.state.specs.declared.Asks.{Asks}
 use Rattle.state.specs.declared.Asks.TheVariants.{Sda, Srd, Sdn, Status, Never}
 use Rattle.state.specs.World.{Event, indicated}
 use Rattle.state.specs.Answering.{Answered, answered, shows, replies, status_events, sdn_events, answer_new}
-use Rattle.state.specs.Answering.{answer_counted, asks, answer_as, answer_to, answer}
-use Rattle.state.specs.Listening.{status_as, status_to, status_only}
+use Rattle.state.specs.Answering.{answer_counted, answer_as, answer_to, answer}
 use Rattle.state.proofs.Cases.{by}
 use Rattle.state.proofs.Weights.{weight, weight_in}
 
@@ -50,24 +49,6 @@ answers-shows r i h d = by (Answers r) _ _ _ (λ e. shown h d [] none) (λ e. no
 answers-status : (r : Responder) (h : Head) → Answers r (status_events r h)
 unfolding status_events
 answers-status r h = by (Answers r) _ _ _ (λ e. none) (λ e. replied _ [] unsent-none none)
-
--- outside the ring
-answers-asked : (a : Asks) (r : Responder) (h : Head) → Answers r (status_as a r h)
-unfolding status_as
-answers-asked Sda r h = none
-answers-asked Srd r h = none
-answers-asked Sdn r h = none
-answers-asked Status r h = answers-status r h
-answers-asked Never r h = none
-
-answers-control : (k : Control) (r : Responder) (h : Head) → Answers r (status_to k r h)
-unfolding status_to
-answers-control (Request s fcb fcv) r h = answers-asked (asks s) r h
-answers-control (Reply k code) r h = none
-
-pub answers-only : (r : Responder) (h : Head) → Answers r (status_only r h)
-unfolding status_only
-answers-only r h = by (Answers r) _ _ _ (λ e. answers-control h.control r h) (λ e. none)
 
 answering : (r : Responder) (m : Memory) (e : List Event) → Answers r e → Answering r (answered m e)
 unfolding answered

@@ -16,8 +16,7 @@ use Rattle.state.specs.declared.Priority.TheVariants.{High, Low}
 use Rattle.state.specs.declared.State.{State}
 use Rattle.state.specs.World.{Rows, World, Called, Done, world_of, state_of, rows_of, queue_of, with_queue, with_core}
 use Rattle.state.specs.World.{with_rows, with_site, done, accepted, refused}
-use Rattle.state.specs.Calls.{submitting, collecting, submit, collect}
-use Rattle.state.specs.World.{refuse, called}
+use Rattle.state.specs.Calls.{refuse, called, submitting, collecting, submit, collect}
 use Rattle.state.specs.Told.{lent}
 
 -- the other queue, and a state's world with a queue's row and the other's
@@ -92,12 +91,10 @@ module _ (s : State) (r o : Rows) where
   unfolding submit lent world_of rows_of queue_of
   submit-beside High n x =
       on-pick (Beside High o) _ (refused-beside High 21)
-      (on-pick (Beside High o) _ (refused-beside High 31)
-      (on-pick (Beside High o) _ (refused-beside High 29) (taken-beside High _)))
+      (on-pick (Beside High o) _ (refused-beside High 29) (taken-beside High _))
   submit-beside Low n x =
       on-pick (Beside Low o) _ (refused-beside Low 21)
-      (on-pick (Beside Low o) _ (refused-beside Low 31)
-      (on-pick (Beside Low o) _ (refused-beside Low 29) (taken-beside Low _)))
+      (on-pick (Beside Low o) _ (refused-beside Low 29) (taken-beside Low _))
 
   pub collect-beside : (p : Priority) → Beside p o (collect p (lent p s r)) (collect p (beside p s r o))
   unfolding collect lent world_of rows_of queue_of

@@ -23,9 +23,7 @@ use Rattle.state.specs.World.{Rows, World, Called, rows, world_of, state_of, row
 use Rattle.state.specs.World.{refused}
 use Rattle.state.specs.Told.{Leaves, leaves, told, reset_of, started_of, lent, accepted_of, answer_of, handed_back_of}
 use Rattle.state.specs.Told.{submitted_of, adds, telling}
-use Rattle.state.specs.Fresh.{Given}
-use Rattle.state.specs.Calls.{Started, Unstarted, Station}
-use Rattle.state.specs.World.{refuse, called}
+use Rattle.state.specs.Calls.{Started, Unstarted, Station, refuse, called}
 use Rattle.state.specs.Calls as Calls
 use Rattle.state.specs.Runs.{Call, submit, frame, sent, slot, reset, collect, call, run, Begun}
 use Rattle.state.specs.Fate.{Served, fate, newborn}
@@ -150,10 +148,10 @@ pub one-call : {k m n : Keeps} {c : Call} {out : List ℕ} {a b : Reply} → Mak
     → (a ≡ b) × (m ≡ n)
 one-call x y = ((made x).answer ∙ sym (made y).answer, (made x).left ∙ sym (made y).left)
 
-pub one-start : (t : Settings) (ts : ℕ) (g : Given) (points : List ℕ) (high low : ℕ) {a b : Renewed}
-    → a ≡ started_of (Calls.start t ts g points high low)
-    → b ≡ started_of (Calls.start t ts g points high low) → a ≡ b
-one-start t ts g points high low e f = e ∙ sym f
+pub one-start : (t : Settings) (ts : ℕ) (masters points : List ℕ) (high low : ℕ) {a b : Renewed}
+    → a ≡ started_of (Calls.start t ts masters points high low)
+    → b ≡ started_of (Calls.start t ts masters points high low) → a ≡ b
+one-start t ts masters points high low e f = e ∙ sym f
 
 -- ---- an accepted start is a begun world
 station-by : (b : Bool) (n : ℕ) (t : Started) → 0 < n → ((started_of t).refused ≡ 0 → t ≡ Station (started_of t).state)
@@ -163,11 +161,11 @@ unfolding pick started_of
 station-by true n t h f e = absurd (omega (arith, h, e))
 station-by false n t h f e = f e
 
-pub station-of : (t : Settings) (ts : ℕ) (g : Given) (points : List ℕ) (high low : ℕ)
-    → (started_of (Calls.start t ts g points high low)).refused ≡ 0
-    → Calls.start t ts g points high low ≡ Station (started_of (Calls.start t ts g points high low)).state
+pub station-of : (t : Settings) (ts : ℕ) (masters points : List ℕ) (high low : ℕ)
+    → (started_of (Calls.start t ts masters points high low)).refused ≡ 0
+    → Calls.start t ts masters points high low ≡ Station (started_of (Calls.start t ts masters points high low)).state
 unfolding Calls.start started_of
-station-of t ts g points high low =
+station-of t ts masters points high low =
     station-by _ 20 _ (omega arith)
     (station-by _ 21 _ (omega arith)
     (station-by _ 21 _ (omega arith)
@@ -180,13 +178,13 @@ starts-begun k s =
     record {
       settings = s.settings;
       ts = s.ts;
-      given = s.given;
+      masters = s.masters;
       points = s.points;
       high = s.high;
       low = s.low;
       state = k.state;
       started =
-          station-of s.settings s.ts s.given s.points s.high s.low
+          station-of s.settings s.ts s.masters s.points s.high s.low
           (ap (λ (a : Renewed). a.refused) (sym s.promise) ∙ s.accepted)
           ∙ ap (λ (a : Renewed). Station a.state) (sym s.promise)
           ∙ ap Station (sym s.state);

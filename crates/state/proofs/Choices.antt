@@ -1,9 +1,9 @@
 -- Two rules in any state, of a run or not: a low request is chosen only while no high one waits; and a token from a
 -- stranger begins no hold the first time. Assumes nothing.
-use Prim.Native.Nat.{ℕ, zero, suc, ◌<◌}
+use Prim.Native.Nat.{ℕ, ◌<◌}
 use mathlib.Core.Bool.{Bool, true, false, true≢false}
-use mathlib.Core.Path.{◌≡◌, refl, sym, ap, ◌∙◌}
-use mathlib.Core.List.{List, [], ◌∷◌, ◌++◌, append-nil}
+use mathlib.Core.Path.{◌≡◌, refl, sym, ◌∙◌}
+use mathlib.Core.List.{List, [], ◌∷◌}
 use native.Mathlib.Omega.{arith}
 use Rattle.choice.proofs.Rules.{true_same, true-less, false-less}
 use Rattle.frame.specs.declared.Address.{Address}
@@ -11,35 +11,22 @@ use Rattle.frame.specs.declared.Part.{Part}
 use Rattle.frame.specs.declared.Fields.TheVariants.{Token}
 use Rattle.frame.specs.declared.Answer.TheVariants.{Read}
 use Rattle.frame.specs.Reading.{read}
-use Rattle.ring.specs.Ring.{previous_of}
-use Rattle.queue.specs.declared.Queue.{Queue}
-use Rattle.state.specs.declared.Stage.{Stage}
-use Rattle.state.specs.declared.Stage.TheVariants.{Listening, Ready, Stopped}
 use Rattle.state.specs.declared.Phase.{Phase}
-use Rattle.state.specs.declared.Phase.TheVariants.{Idle, Awaited, Sdn, Check, ToSelf, Outside}
-use Rattle.state.specs.declared.Priority.{Priority}
+use Rattle.state.specs.declared.Phase.TheVariants.{Idle, Awaited, Sdn, Check, ToSelf}
 use Rattle.state.specs.declared.Priority.TheVariants.{High, Low}
 use Rattle.state.specs.declared.Core.{Core}
 use Rattle.state.specs.declared.Choice.{Choice}
 use Rattle.state.specs.declared.Choice.TheVariants.{Serve, PassOn}
 use Rattle.state.specs.World.{Site, World, Event, Done, Called, accepted, begins, ends, sends, confirmed}
 use Rattle.state.specs.World.{collected, indicated, resets, refused, still, done, and_then, with_doing, with_core}
-use Rattle.state.specs.World.{queue_of, with_ps, with_learner, with_masters, with_site, with_started}
+use Rattle.state.specs.World.{with_site}
 use Rattle.state.specs.Request.{close_of, close, judged}
 use Rattle.state.specs.Hold.{choice, rest, token, over, given_up, concluded}
 use Rattle.state.specs.Calls as Calls
-use Rattle.state.specs.Calls.{idle, idle_read, awaited_read, heard}
-use Rattle.state.specs.World.{called, refuse, nothing}
+use Rattle.state.specs.Calls.{called, refuse, nothing, idle, idle_read, awaited_read, heard}
 use Rattle.state.specs.Runs.{call}
 use Rattle.state.specs.Runs.Call.{frame}
-use Rattle.state.specs.Fresh.{Fresh, dismissed, count_of, dismissal, cleared}
-use Rattle.state.specs.Listening.{learned, learns, readied, adopted, entering, token_heard, sender_of, own_heard}
-use Rattle.state.specs.Listening.{others_heard, good_heard, outside}
-use Rattle.learn.specs.Learning.{complete}
-use Rattle.state.specs.Masters.{learning_of, list_of}
 use Rattle.state.proofs.Cases.{by}
-use Rattle.state.proofs.Phases.{away, broken-by}
-use Rattle.state.proofs.Taught.{Taught, not_yet, taken-up, taught_by}
 
 -- ---- what the choice saw: a request of the queue that it serves, for a low one no high one, and at a hold's start it
 -- passes no high one over
@@ -110,27 +97,6 @@ stays-refuse : (n : ℕ) (w : World) → Stays (refuse n w)
 unfolding refuse opens
 stays-refuse n w = record { stays = refl }
 
--- confirmations DS begin none
-opens-dismissed : (p : Priority) (n count : ℕ) (q : Queue) (l : List Event) → opens l ≡ false
-    → opens (dismissed p n count q ++ l) ≡ false
-unfolding dismissed opens
-opens-dismissed p zero count q l e = e
-opens-dismissed p (suc n) count q l e = opens-dismissed p n 0 _ l e
-
-stays-cleared : (f : Fresh) (w : World) → Stays (cleared f w)
-unfolding cleared dismissal opens
-stays-cleared f w =
-    let c = w.site.core in
-    let low = ap opens (sym (append-nil (dismissal Low c)))
-    ∙ opens-dismissed Low (queue_of Low c).unconfirmed (count_of Low c) (queue_of Low c) [] refl in
-    let all = opens-dismissed High (queue_of High c).unconfirmed (count_of High c) (queue_of High c) (dismissal Low c) low in
-    record {
-      stays =
-          rw (broken-by c.doing.phase)
-          (by (λ (l : List Event). opens (l ++ (dismissal High c ++ dismissal Low c)) ≡ false) _ _ _ (λ e. all)
-          (λ e. all));
-    }
-
 shut-token : (clock d a : ℕ) (s : Site) → (a ≡ s.core.ps.0 → ⊥) → (a ≡ s.core.stranger.0 → ⊥)
     → Shut (token clock d a s)
 unfolding token
@@ -156,60 +122,23 @@ module _ (clock : ℕ) (room : Bool) (high low octets : List ℕ) (d a : Address
   unfolding awaited_read judged concluded
   shut-awaited s = rw e (shut-given_up s)
 
-  -- outside the ring: the token may complete the list, and then PS is found anew
-  stays-taught : {v : World} (w : World) → Taught d.0 a.0 w v → (a.0 ≡ w.site.core.ps.0 → ⊥)
-      → (a.0 ≡ w.site.core.stranger.0 → ⊥)
-      → (complete (learning_of w.site.core w.started a d) ≡ true
-      → a.0 ≡ previous_of (list_of w.site.core w.started a d) w.site.core.ts.0 → ⊥)
-      → Stays (entering clock d.0 a.0 v)
-  unfolding entering learns learned adopted readied with_started with_masters with_site with_core with_learner with_doing with_ps
-      list_of learning_of
-  stays-taught w (not_yet c) h k l = stays-called _ _ (shut-token clock _ _ _ h k)
-  stays-taught w (taken-up c) h k l = stays-called _ _ (shut-token clock _ _ _ (l c) k)
-
-  stays-token : (g : Stage) (w : World) → (a.0 ≡ w.site.core.ps.0 → ⊥) → (a.0 ≡ w.site.core.stranger.0 → ⊥)
-      → (complete (learning_of w.site.core w.started a d) ≡ true
-      → a.0 ≡ previous_of (list_of w.site.core w.started a d) w.site.core.ts.0 → ⊥)
-      → Stays (token_heard g clock d.0 a.0 w)
-  unfolding token_heard
-  stays-token Listening w h k l = stays-nothing _
-  stays-token Ready w h k l = stays-taught w (taught_by d.0 a.0 w) h k l
-  stays-token Stopped w h k l = stays-nothing w
-
-  stays-outside : (g : Stage) (w : World) → (a.0 ≡ w.site.core.ps.0 → ⊥)
-      → (a.0 ≡ w.site.core.stranger.0 → ⊥)
-      → (complete (learning_of w.site.core w.started a d) ≡ true
-      → a.0 ≡ previous_of (list_of w.site.core w.started a d) w.site.core.ts.0 → ⊥)
-      → Stays (outside g clock (read octets) w)
-  unfolding outside good_heard own_heard others_heard sender_of
-  stays-outside g w h k l =
-      rw e (by Stays _ _ _ (λ i. by Stays _ _ _ (λ j. stays-cleared _ w) (λ j. stays-nothing _)) (λ i. stays-token g w h k l))
-
   stays-heard : (x : Phase) (w : World) → (a.0 ≡ w.site.core.ps.0 → ⊥) → (a.0 ≡ w.site.core.stranger.0 → ⊥)
-      → (away x ≡ true → complete (learning_of w.site.core w.started a d) ≡ true
-      → a.0 ≡ previous_of (list_of w.site.core w.started a d) w.site.core.ts.0 → ⊥)
       → Stays (heard x clock room high low octets w)
-  unfolding heard with_site rest with_core with_doing away
-  stays-heard Idle w h k l = stays-idle w h k
-  stays-heard Awaited w h k l = stays-called _ w (shut-awaited w.site)
-  stays-heard Sdn w h k l = stays-nothing w
-  stays-heard Check w h k l = stays-idle _ h k
-  stays-heard ToSelf w h k l = stays-nothing w
-  stays-heard (Outside g) w h k l = stays-outside g w h k (l refl)
+  unfolding heard with_site rest with_core with_doing
+  stays-heard Idle w h k = stays-idle w h k
+  stays-heard Awaited w h k = stays-called _ w (shut-awaited w.site)
+  stays-heard Sdn w h k = stays-nothing w
+  stays-heard Check w h k = stays-idle _ h k
+  stays-heard ToSelf w h k = stays-nothing w
 
   stays-frame : (out : ℕ) (w : World) → (a.0 ≡ w.site.core.ps.0 → ⊥) → (a.0 ≡ w.site.core.stranger.0 → ⊥)
-      → (away w.site.core.doing.phase ≡ true → complete (learning_of w.site.core w.started a d) ≡ true
-      → a.0 ≡ previous_of (list_of w.site.core w.started a d) w.site.core.ts.0 → ⊥)
       → Stays (Calls.frame clock room high low octets out w)
   unfolding Calls.frame
-  stays-frame out w h k l = by Stays _ _ _ (λ i. stays-heard _ w h k l) (λ i. stays-refuse _ w)
+  stays-frame out w h k = by Stays _ _ _ (λ i. stays-heard _ w h k) (λ i. stays-refuse _ w)
 
-  -- a token of a station that is neither PS nor the stranger of a first token begins no hold, whatever the state; outside
-  -- the ring PS is also the one of the list that this token completes
+  -- a token of a station that is neither PS nor the stranger of a first token begins no hold, whatever the state
   pub first-token : (out : ℕ) (w : World) → (a.0 ≡ w.site.core.ps.0 → ⊥)
       → (a.0 ≡ w.site.core.stranger.0 → ⊥)
-      → (away w.site.core.doing.phase ≡ true → complete (learning_of w.site.core w.started a d) ≡ true
-      → a.0 ≡ previous_of (list_of w.site.core w.started a d) w.site.core.ts.0 → ⊥)
       → opens (call (frame clock room high low octets out) w).events ≡ false
   unfolding call
-  first-token out w h k l = (stays-frame out w h k l).stays
+  first-token out w h k = (stays-frame out w h k).stays

@@ -12,7 +12,7 @@ use Rattle.rows.specs.Rows.{at, content}
 use Rattle.state.specs.declared.Priority.{Priority}
 use Rattle.state.specs.World.{Rows, Site, World, Event, Called, aRequest, accepted, begins, ends, sends}
 use Rattle.state.specs.World.{confirmed, collected, indicated, resets, refused, rows_of}
-use Rattle.state.specs.World.{refuse}
+use Rattle.state.specs.Calls.{refuse}
 use Rattle.state.specs.Runs.{Call, call, run, Begun}
 use Rattle.state.specs.Submitted.{Lies, confirms, collects, never}
 use Rattle.state.proofs.Cases.{Any}

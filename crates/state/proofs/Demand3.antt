@@ -22,8 +22,7 @@ use Rattle.state.specs.World.{World, Called, accepted, done, with_queue, queue_o
 use Rattle.state.specs.World.{with_core, rows_of, with_rows, with_site}
 use Rattle.state.specs.Refusals.{odd_in}
 use Rattle.state.specs.Calls as Calls
-use Rattle.state.specs.Calls.{limited_in}
-use Rattle.state.specs.World.{called, refuse}
+use Rattle.state.specs.Calls.{called, refuse, limited_in}
 use Rattle.state.specs.Runs.{Call, call, run, Begun}
 use Rattle.state.specs.Runs.Call.{submit}
 use Rattle.state.specs.Fate.{Fate, newborn, fate, Served}

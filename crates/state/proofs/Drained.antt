@@ -15,7 +15,7 @@ use Rattle.state.specs.declared.Priority.{Priority}
 use Rattle.state.specs.declared.Priority.TheVariants.{High, Low}
 use Rattle.state.specs.declared.Core.{Core}
 use Rattle.state.specs.World.{Event, ends, confirmed, resets}
-use Rattle.state.specs.Fresh.{sendings_of, count_of}
+use Rattle.state.specs.Calls.{sendings_of, count_of}
 use Rattle.state.specs.Fate.{Fate, confirmed_with, hold_ended, was_reset, fate}
 use Rattle.state.proofs.Phases.{begun-by}
 use Rattle.state.proofs.Places.{current-ours, current-ahead, current-shut, waiting-confirmed, shut-now}

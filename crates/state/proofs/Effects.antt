@@ -23,19 +23,18 @@ use Rattle.state.specs.declared.Outcome.{Outcome}
 use Rattle.state.specs.World.{Rows, Site, What, aRequest, aToken, aReply, Event, accepted, begins, ends, sends}
 use Rattle.state.specs.World.{confirmed, collected, indicated, resets, refused, done, with_doing, with_hold}
 use Rattle.state.specs.World.{with_stranger, with_ps, with_queue, queue_of, with_core, with_masters, with_marks}
-use Rattle.state.specs.World.{with_learner, rows_of, with_rows}
-use Rattle.state.specs.Listening.{adopted, lone}
+use Rattle.state.specs.World.{rows_of, with_rows}
 use Rattle.state.specs.Request.{octets_in, send_core, once, status_of, close_of}
 use Rattle.state.specs.Pass.{pass_core, without}
 use Rattle.state.specs.Hold.{choice, rest, beginning, admit}
 use Rattle.state.specs.Answering as A
-use Rattle.state.specs.Fresh.{fresh_core}
+use Rattle.state.specs.Calls.{fresh_core}
 use Rattle.state.specs.Counts.{alike}
 use Rattle.state.proofs.Cases.{Any, any}
 use Rattle.state.proofs.Phases.{flight}
 use Rattle.state.proofs.Choices.{saw-high, saw-low}
 use Rattle.state.proofs.Acts.{Point, Move, lets_go, rests, notes, admits, drops}
-use Rattle.state.proofs.Acts.{spares, renews, learns, adopts, claims, Act, opens, serves, stops, quits, passes, repasses, repeats}
+use Rattle.state.proofs.Acts.{spares, renews, Act, opens, serves, stops, quits, passes, repasses, repeats}
 use Rattle.state.proofs.Acts.{closes, takes, hands, replies, shows, restarts, breaks, clears-high, clears-low}
 use Rattle.state.proofs.Acts.{octets_of, grown_by, freed_of, filled, dismissing}
 use Rattle.state.proofs.Poise.{queue_by, Poised, poised-apt, served-some, closing-short, closing-flight}
@@ -109,17 +108,14 @@ pub record Left (y : Priority) (s s' : Site) : Type 0 where
   pub rows : rows_at y s' ≡ rows_at y s
 
 pub left-moved : (y : Priority) {p q : Point} {s s' : Site} → Move Any p s q s' → Left y s s'
-unfolding rest admit without adopted lone with_core with_masters with_doing with_stranger with_ps with_learner fresh_core
+unfolding rest admit without with_core with_masters with_doing with_stranger with_ps fresh_core
 left-moved y (lets_go s h) = record { queue = refl; rows = refl }
 left-moved y (rests s) = record { queue = refl; rows = refl }
 left-moved y (notes a s h i j k) = record { queue = refl; rows = refl }
 left-moved y (admits a s h i j) = record { queue = refl; rows = refl }
 left-moved y (drops s e h) = record { queue = refl; rows = refl }
 left-moved y (spares s h) = record { queue = refl; rows = refl }
-left-moved y (renews a b f s q n h i j) = record { queue = refl; rows = refl }
-left-moved y (learns x s e) = record { queue = refl; rows = refl }
-left-moved y (adopts masters s e h) = record { queue = refl; rows = refl }
-left-moved y (claims s) = record { queue = refl; rows = refl }
+left-moved y (renews a b masters s h i j) = record { queue = refl; rows = refl }
 
 -- ---- acts on the queue itself, and on the other
 effect-sent : (y z : Priority) (s : Site) (t : ℕ) → 0 < (queue_at z s).unconfirmed

@@ -15,7 +15,7 @@ use Rattle.state.specs.declared.Priority.{Priority}
 use Rattle.state.specs.declared.Priority.TheVariants.{High, Low}
 use Rattle.state.specs.World.{Rows, Site, World, Called, accepted, done, with_queue, queue_of}
 use Rattle.state.specs.World.{with_core, rows_of, with_rows, with_site}
-use Rattle.state.specs.World.{called, refuse}
+use Rattle.state.specs.Calls.{called, refuse}
 use Rattle.state.proofs.Submission.{placed, Submission, declines, admits}
 use Rattle.state.proofs.Refused.{refuses}
 use Rattle.state.proofs.Places.{waiting-new}

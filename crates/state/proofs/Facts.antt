@@ -2,11 +2,10 @@
 use Prim.Native.Nat.{ℕ, ◌<◌, ◌≤◌}
 use mathlib.Core.Bool.{Bool, true, false}
 use mathlib.Core.List.{List}
-use mathlib.Core.Path.{◌≡◌, refl, sym, ◌∙◌}
+use mathlib.Core.Path.{◌≡◌, refl, sym}
 use Rattle.choice.specs.Choice.{pick, said}
 use native.Mathlib.Omega.{arith}
-use Rattle.choice.proofs.Rules.{false-less, false_same, passed, unrefused, granted, is_said, not-turned, pick_true}
-use Rattle.choice.proofs.Rules.{pick-false}
+use Rattle.choice.proofs.Rules.{false-less, false_same, passed, unrefused, granted, is_said, not-turned}
 use Rattle.ring.specs.Ring.{member}
 use Rattle.times.specs.declared.Settings.{Settings}
 use Rattle.times.specs.Times.{Small}
@@ -23,10 +22,10 @@ use Rattle.state.specs.declared.Priority.{Priority}
 use Rattle.state.specs.declared.Priority.TheVariants.{High, Low}
 use Rattle.state.specs.declared.Core.{Core}
 use Rattle.state.specs.declared.Kept.{Kept}
-use Rattle.state.specs.World.{Rows, World, queue_of}
+use Rattle.state.specs.World.{Rows, queue_of}
 use Rattle.state.specs.Answering.{UPDATE}
-use Rattle.state.specs.Refusals.{Lawful, Sited, unstartable, unlent, cramped, has_stopped, unstarted, overcounted}
-use Rattle.state.specs.Refusals.{odd_in, lawless, sound_in, unlike_in, row_by, in_flight, unsound, refusal_in, refusal}
+use Rattle.state.specs.Refusals.{Lawful, Sited, unstartable, unlent, cramped, unstarted, overcounted}
+use Rattle.state.specs.Refusals.{odd_in, lawless, sound_in, unlike_in, row_by, in_flight, unsound, refusal_in}
 
 -- ---- 20
 module _ (s : Settings) (ts : ℕ) (masters : List ℕ) (e : unstartable s ts masters ≡ false) where
@@ -178,8 +177,7 @@ module _ (out first second : ℕ) (c : Core) (masters started : List ℕ) (k : K
   tests : (unlent c.high high ≡ false)
       × ((unlent c.low low ≡ false)
       × ((cramped out first second ≡ false)
-      × ((has_stopped c.doing.phase ≡ false)
-      × ((lawless c masters started k ≡ false) × (unsound c high.row low.row ≡ false)))))
+      × ((lawless c masters started k ≡ false) × (unsound c high.row low.row ≡ false))))
   unfolding refusal_in
   tests =
       let a = passed _ _ _ (omega arith) e in
@@ -187,17 +185,13 @@ module _ (out first second : ℕ) (c : Core) (masters started : List ℕ) (k : K
       let d = passed _ _ _ (omega arith) b.1 in
       let f = passed _ _ _ (omega arith) d.1 in
       let g = passed _ _ _ (omega arith) f.1 in
-      let h = passed _ _ _ (omega arith) g.1 in
-      (is_said a.0, (is_said b.0, (is_said d.0, (is_said f.0, (is_said g.0, is_said h.0)))))
-
-  pub not_stopped : has_stopped c.doing.phase ≡ false
-  not_stopped = tests.1.1.1.0
+      (is_said a.0, (is_said b.0, (is_said d.0, (is_said f.0, is_said g.0))))
 
   not-lawless : lawless c masters started k ≡ false
-  not-lawless = tests.1.1.1.1.0
+  not-lawless = tests.1.1.1.0
 
   not-unsound : unsound c high.row low.row ≡ false
-  not-unsound = tests.1.1.1.1.1
+  not-unsound = tests.1.1.1.1
 
   pub sited : Sited c high low
   sited =
@@ -228,25 +222,6 @@ module _ (out first second : ℕ) (c : Core) (masters started : List ℕ) (k : K
 
   pub sdn-queued : c.doing.phase ≡ Sdn → 0 < (queue_of c.doing.served c).unconfirmed
   sdn-queued h = lawful-sdn c masters started k not-lawless h
-
--- of a world
-pub unrefused-lawful : (out first second : ℕ) (w : World) → refusal out first second w ≡ 0
-    → lawless w.site.core w.site.masters w.started w.memory.kept ≡ false
-unfolding refusal
-unrefused-lawful out first second w e = not-lawless out first second _ _ _ _ _ _ e
-
-pub unrefused-stopped : (out first second : ℕ) (w : World) → refusal out first second w ≡ 0
-    → has_stopped w.site.core.doing.phase ≡ false
-unfolding refusal
-unrefused-stopped out first second w e = not_stopped out first second _ _ _ _ _ _ e
-
--- "31 .. after 22 and before 29": whatever 29 says
-pub stopped-31 : (out first second : ℕ) (w : World) → unlent w.site.core.high w.site.high ≡ false
-    → unlent w.site.core.low w.site.low ≡ false → cramped out first second ≡ false
-    → has_stopped w.site.core.doing.phase ≡ true → refusal out first second w ≡ 31
-unfolding refusal refusal_in said
-stopped-31 out first second w h l c s =
-    pick-false _ _ h ∙ pick-false _ _ l ∙ pick-false _ _ c ∙ pick_true _ _ s
 
 -- ---- 29, by the records, whichever is asked first
 either_way : (a b : Bool) {u : Bool} → u ≡ true → true ≡ pick (said a) (pick (said b) u true) true

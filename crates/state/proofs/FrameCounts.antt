@@ -31,17 +31,15 @@ use Rattle.state.specs.Pass.{pass_core, without}
 use Rattle.state.specs.Hold.{choice, resting, rest, admit}
 use Rattle.state.specs.Answering as A
 use Rattle.state.specs.Refusals.{row_by, unlike_in}
-use Rattle.state.specs.Fresh.{fresh_core}
+use Rattle.state.specs.Calls.{fresh_core}
 use Rattle.state.specs.Runs.{Call, run, Begun}
 use Rattle.state.specs.Counts.{Pending, none, History, unheard, closes as closes_in, goes, heeds, history, Rightly}
 use Rattle.state.specs.Counts as C
-use Rattle.state.specs.World.{with_learner}
-use Rattle.state.specs.Listening.{readied, adopted, lone}
 use Rattle.state.proofs.Cases.{Any, any}
-use Rattle.state.proofs.Phases.{flight, away-unsent, quiet_by}
+use Rattle.state.proofs.Phases.{flight}
 use Rattle.state.proofs.Choices.{saw-high, saw-low}
 use Rattle.state.proofs.Acts.{Point, calm, free, choosing, passing, halting, clearing, Closing, Move, lets_go}
-use Rattle.state.proofs.Acts.{rests, notes, admits, drops, spares, renews, learns, adopts, claims, Act, opens, serves, stops, quits}
+use Rattle.state.proofs.Acts.{rests, notes, admits, drops, spares, renews, Act, opens, serves, stops, quits}
 use Rattle.state.proofs.Acts.{passes, repasses, repeats, closes, takes, hands, replies, shows, restarts}
 use Rattle.state.proofs.Acts.{breaks, clears-high, clears-low, first_sending, next_sending, closing, sent}
 use Rattle.state.proofs.Acts.{sent_again, grown_by, freed_of}
@@ -73,18 +71,14 @@ unfolding unheard
 fits_fresh e = rested e (record { agree = agree-unknown; nothing = refl })
 
 stands-moved : {p q : Point} {s s' : Site} → Move Any p s q s' → (z : History) → Stands p s z → Stands q s' z
-unfolding Stands rest admit without adopted readied lone with_core with_masters with_doing with_stranger with_ps
-    with_learner resting fresh_core flight
+unfolding Stands rest admit without with_core with_masters with_doing with_stranger with_ps resting fresh_core flight
 stands-moved (lets_go s h) z i = at_rest (h any) i
 stands-moved (rests s) z i = rested refl i
 stands-moved (notes a s h j k l) z i = i
 stands-moved (admits a s h j k) z i = i
 stands-moved (drops s e h) z i = at_rest (ap flight (e any)) i
 stands-moved (spares s h) z i = i
-stands-moved (renews a b f s q n h j k) z i = rw i (fits_fresh (quiet_by f.phase (q any)).unsent)
-stands-moved (learns x s e) z i = i
-stands-moved (adopts masters s e h) z i = rested refl (at_rest (away-unsent _ e) i)
-stands-moved (claims s) z i = i
+stands-moved (renews a b masters s h j k) z i = rw i (fits_fresh refl)
 
 -- ---- a sending, for the first time and again
 turn-first : {y : Priority} {n : ℕ} {o : List ℕ} {x : Pending} → x ≡ C.none → C.Turn y n o x
@@ -285,7 +279,7 @@ fits-begun : (w : World) → Begun w → Stands calm w.site unheard
 unfolding Stands flight
 fits-begun w b =
     let m = begun-marks w b in
-    rw m.0 (fits_fresh (quiet_by _ m.1).unsent)
+    rw m.0 (fits_fresh (ap flight m.1))
 
 pub sends-rightly : (p : Priority) (n : ℕ) (o : List ℕ) (t : ℕ) (z : History) → Meets (sends (aRequest p n) o t) z
     → Rightly z p n o

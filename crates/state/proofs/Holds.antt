@@ -16,15 +16,13 @@ use Rattle.state.specs.Request.{send_core, once, close_of}
 use Rattle.state.specs.Pass.{pass_core, without}
 use Rattle.state.specs.Hold.{resting, rest, beginning, admit}
 use Rattle.state.specs.Answering as A
-use Rattle.state.specs.Fresh.{fresh_core}
+use Rattle.state.specs.Calls.{fresh_core}
 use Rattle.state.specs.Runs.{Call, run, Begun}
 use Rattle.state.specs.Holds.{hold_after, hold_last, holding}
-use Rattle.state.specs.World.{with_learner}
-use Rattle.state.specs.Listening.{readied, adopted, lone}
 use Rattle.state.proofs.Cases.{Any, any}
-use Rattle.state.proofs.Phases.{flight, away-unsent, quiet_by, holding-by}
+use Rattle.state.proofs.Phases.{flight, holding-by}
 use Rattle.state.proofs.Acts.{Point, calm, free, choosing, passing, halting, clearing, Move, lets_go, rests}
-use Rattle.state.proofs.Acts.{notes, admits, drops, spares, renews, learns, adopts, claims, Act, opens, serves, stops, quits, passes}
+use Rattle.state.proofs.Acts.{notes, admits, drops, spares, renews, Act, opens, serves, stops, quits, passes}
 use Rattle.state.proofs.Acts.{repasses, repeats, closes, takes, hands, replies, shows, restarts, breaks}
 use Rattle.state.proofs.Acts.{clears-high, clears-low}
 use Rattle.state.proofs.Keeping.{ungrounded, Account, kept_run, met}
@@ -60,18 +58,14 @@ Stands (clearing m n) g b = b ≡ false
 
 stands-moved : {p q : Point} {s s' : Site} → Move Any p s q s' → (b : Bool) → Stands p s.core.doing b
     → Stands q s'.core.doing b
-unfolding Stands rest admit without adopted readied lone with_core with_masters with_doing with_stranger with_ps
-    with_learner resting fresh_core flight
+unfolding Stands rest admit without with_core with_masters with_doing with_stranger with_ps resting fresh_core flight
 stands-moved (lets_go s e) b i = sym i ∙ e any
 stands-moved (rests s) b i = sym i
 stands-moved (notes a s e f g h) b i = i
 stands-moved (admits a s e f g) b i = i
 stands-moved (drops s e h) b i = sym i ∙ ap flight (e any)
 stands-moved (spares s e) b i = sym i ∙ e
-stands-moved (renews m n f s q o e g h) b i = (quiet_by f.phase (q any)).unsent ∙ sym i
-stands-moved (learns x s e) b i = i
-stands-moved (adopts masters s e h) b i = sym (away-unsent _ e) ∙ i
-stands-moved (claims s) b i = i
+stands-moved (renews m n masters s e f g) b i = sym i
 
 stands-acted : {p q : Point} {s s' : Site} {e : Event} → Act Any p s e q s' → (b : Bool) → Stands p s.core.doing b
     → Meets e b × Stands q s'.core.doing (hold_after e b)
@@ -128,7 +122,7 @@ holds =
 
 stands-begun : (w : World) → Begun w → Stands calm w.site.core.doing false
 unfolding Stands flight
-stands-begun w b = (quiet_by _ (begun-marks w b).1).unsent
+stands-begun w b = ap flight (begun-marks w b).1
 
 -- ---- the theorems, after a start and any calls
 module _ (w : World) (b : Begun w) (l : List Call) where

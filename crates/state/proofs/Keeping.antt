@@ -4,7 +4,7 @@ use mathlib.Core.Path.{◌≡◌, sym, ap, ◌∙◌}
 use mathlib.Core.List.{List, [], ◌∷◌, ◌++◌}
 use Rattle.state.specs.World.{Site, World, What, Event, Called, accepted, begins, ends, sends, confirmed}
 use Rattle.state.specs.World.{collected, indicated, resets, refused}
-use Rattle.state.specs.World.{refuse}
+use Rattle.state.specs.Calls.{refuse}
 use Rattle.state.specs.Runs.{Call, call, run}
 use Rattle.state.proofs.Cases.{Any, any}
 use Rattle.state.proofs.Acts.{Point, calm, Move, Act, Trail, stop, move, act}

@@ -28,9 +28,7 @@ use Rattle.state.specs.World.{confirmed, collected, indicated, resets, refused, 
 use Rattle.state.specs.World.{with_core, rows_of, with_rows, with_site}
 use Rattle.state.specs.Request.{octets_in}
 use Rattle.state.specs.Calls as Calls
-use Rattle.state.specs.Calls.{collecting}
-use Rattle.state.specs.World.{called, refuse}
-use Rattle.state.specs.Fresh.{empty_queue}
+use Rattle.state.specs.Calls.{called, refuse, collecting, empty_queue}
 use Rattle.state.specs.Counts.{alike}
 use Rattle.state.specs.Runs.{Call, call, run, Begun}
 use Rattle.state.specs.Runs.Call.{submit, frame, sent, slot, reset, collect}

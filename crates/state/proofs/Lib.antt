@@ -3,7 +3,6 @@ pub mod Facts
 pub mod Phases
 pub mod Choices
 pub mod Acts
-pub mod Taught
 pub mod Submission
 pub mod Spans
 pub mod Weights
@@ -50,10 +49,4 @@ pub mod Submitted
 pub mod Confirmed
 pub mod Ledger
 pub mod Retries
-pub mod Inside
-pub mod Near
-pub mod Learned
-pub mod Forced
-pub mod Silent
-pub mod Joins
 pub mod Masters

@@ -24,13 +24,12 @@ use Rattle.state.specs.World.{Rows, Site, World, Event, Done, Called, accepted, 
 use Rattle.state.specs.World.{collected, indicated, resets, refused, done, queue_of, rows_of}
 use Rattle.state.specs.Refusals.{lawless}
 use Rattle.state.specs.Calls as Calls
-use Rattle.state.specs.Calls.{submitting, collecting, resetting}
-use Rattle.state.specs.World.{called, refuse}
+use Rattle.state.specs.Calls.{called, refuse, submitting, collecting}
 use Rattle.state.specs.Told.{untold, adds, telling}
 use Rattle.state.specs.Runs.{Call, call, run}
 use Rattle.state.specs.Runs.Call.{submit, frame, sent, slot, reset, collect}
 use Rattle.state.proofs.Cases.{by}
-use Rattle.state.proofs.Refused.{refuses, Told, told-carried, told-cleared}
+use Rattle.state.proofs.Refused.{refuses, Told, told-carried, told-resetting}
 use Rattle.state.proofs.Hearing.{short-updates}
 use Rattle.state.proofs.Walk.{carried-heard, carried-sent, carried-slot}
 use Rattle.state.proofs.Places.{place-first}
@@ -170,9 +169,6 @@ module _ (t : Settings) (ts : ℕ) (w : World) (o : Orderly t ts w) where
   not-21 : Spared (refuse 21 w)
   not-21 = spared-refuse 21 w (λ z. omega arith)
 
-  not-31 : Spared (refuse 31 w)
-  not-31 = spared-refuse 31 w (λ z. omega arith)
-
   lawful : {A : Type 0} → said (lawless w.site.core w.site.masters w.started w.memory.kept) ≡ true → A
   lawful e = absurd (true≢false (sym (is_said e) ∙ not-lawless t ts w o))
 
@@ -180,12 +176,12 @@ module _ (t : Settings) (ts : ℕ) (w : World) (o : Orderly t ts w) where
   unfolding Calls.submit queue_of rows_of
   spared-submit High r x =
       by Spared _ _ _ (λ e. not-21)
-      (λ e. by Spared _ _ _ (λ e. not-31)
-      (λ e. by Spared _ _ _ (λ e. lawful e) (λ e. spared-submitting High _ w (submitted-not _ _ _ x _ _))))
+      (λ e. by Spared _ _ _ (λ e. lawful e)
+      (λ e. spared-submitting High _ w (submitted-not _ _ _ x _ _)))
   spared-submit Low r x =
       by Spared _ _ _ (λ e. not-21)
-      (λ e. by Spared _ _ _ (λ e. not-31)
-      (λ e. by Spared _ _ _ (λ e. lawful e) (λ e. spared-submitting Low _ w (submitted-not _ _ _ x _ _))))
+      (λ e. by Spared _ _ _ (λ e. lawful e)
+      (λ e. spared-submitting Low _ w (submitted-not _ _ _ x _ _)))
 
   spared-collect : (y : Priority) → Spared (Calls.collect y w)
   unfolding Calls.collect queue_of rows_of
@@ -197,11 +193,10 @@ module _ (t : Settings) (ts : ℕ) (w : World) (o : Orderly t ts w) where
       (λ e. by Spared _ _ _ (λ e. lawful e) (λ e. spared-collecting Low _ _ w.site.low w o.firm.low))
 
   spared-reset : Spared (Calls.reset w)
-  unfolding Calls.reset resetting
+  unfolding Calls.reset
   spared-reset =
       by Spared _ _ _ (λ e. not-21)
-      (λ e. by Spared _ _ _ (λ e. not-21)
-      (λ e. by Spared _ _ _ (λ e. not-31) (λ e. by Spared _ _ _ (λ e. lawful e) (λ e. spared-told (told-cleared _ w)))))
+      (λ e. by Spared _ _ _ (λ e. not-21) (λ e. by Spared _ _ _ (λ e. lawful e) (λ e. spared-told (told-resetting w))))
 
   spared-frame : (clock : ℕ) (room : Bool) (high low octets : List ℕ) (out : ℕ)
       → Spared (Calls.frame clock room high low octets out w)
@@ -209,7 +204,7 @@ module _ (t : Settings) (ts : ℕ) (w : World) (o : Orderly t ts w) where
   spared-frame clock room high low octets out =
       by Spared _ _ _
       (λ e. let u = short-updates out (length high) (length low) w (true_same _ _ e) in spared-told
-      (told-carried (carried-heard clock room high low octets out u.0 u.1 _ w refl (not-lawless t ts w o))))
+      (told-carried (carried-heard clock room high low octets out u.0 u.1 _ w refl)))
       (λ e. spared-refuse _ w (never-29-in t ts w o out _ _))
 
   spared-sent : (clock out : ℕ) → Spared (Calls.sent clock out w)

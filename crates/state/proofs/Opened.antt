@@ -19,8 +19,6 @@ use Rattle.state.specs.Pass as Pass
 use Rattle.state.specs.Hold as Hold
 use Rattle.state.specs.Answering as Answering
 use Rattle.state.specs.Refusals as Refusals
-use Rattle.state.specs.Fresh as Fresh
-use Rattle.state.specs.Listening as Listening
 use Rattle.state.specs.Calls as Calls
 use Rattle.state.specs.Runs as Runs
 use Rattle.state.specs.Twelve as Twelve
@@ -62,7 +60,7 @@ rows = true
 unfoldable pub acts : Bool
 unfolding frames times rows World.done World.and_then World.with_doing World.with_hold World.with_stranger World.with_queue
     World.queue_of World.with_core World.with_marks World.rows_of World.with_rows World.with_site World.with_memory
-    World.world_of World.state_of World.called World.refuse World.nothing Request.fcb_of Request.fcv_of Request.service_of Request.control_for Request.head_for
+    World.world_of World.state_of Request.fcb_of Request.fcv_of Request.service_of Request.control_for Request.head_for
     Request.record_in Request.data_in Request.octets_in Request.record_of Request.after_last Request.wait_for Request.sending
     Request.send_core Request.send_events Request.send Request.once Request.again_events Request.again_of Request.again
     Request.status_of Request.marks_after Request.close_of Request.close Request.judged Pass.ns Pass.token_to Pass.passing
@@ -77,9 +75,9 @@ acts = true
 unfoldable pub calls : Bool
 unfolding acts Refusals.unstartable Refusals.unlent Refusals.cramped Refusals.unstarted Refusals.misaddressed
     Refusals.overcounted Refusals.odd_in Refusals.lawless Refusals.sound_in Refusals.unlike_in Refusals.row_by
-    Refusals.in_flight Refusals.unsound Refusals.has_stopped Refusals.refusal_in Refusals.refusal Calls.replying Fresh.empty_queue
-    Fresh.first_hold Fresh.forgotten Fresh.fresh_core Fresh.begins_with Fresh.fresh_world Calls.start Calls.submitting Calls.submit
-    Calls.collecting Calls.collect Listening.kind_in Listening.responder Calls.idle Calls.idle_read Calls.awaited_read Calls.heard Calls.frame
+    Refusals.in_flight Refusals.unsound Refusals.refusal_in Refusals.refusal Calls.called Calls.replying Calls.empty_queue
+    Calls.first_hold Calls.forgotten Calls.fresh_core Calls.fresh_world Calls.start Calls.submitting Calls.submit
+    Calls.collecting Calls.collect Calls.responder Calls.idle Calls.idle_read Calls.awaited_read Calls.heard Calls.frame
     Calls.slot_in
     Calls.slot Runs.call Runs.run
 calls = true

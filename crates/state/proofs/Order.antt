@@ -120,7 +120,6 @@ module _ (t : Settings) (ts : ℕ) (w : World) (o : Orderly t ts w) where
       by (λ (n : ℕ). n ≡ 29 → ⊥) _ _ _ (λ e z. omega arith)
       (λ e. by (λ (n : ℕ). n ≡ 29 → ⊥) _ _ _ (λ e z. omega arith)
       (λ e. by (λ (n : ℕ). n ≡ 29 → ⊥) _ _ _ (λ e z. omega arith)
-      (λ e. by (λ (n : ℕ). n ≡ 29 → ⊥) _ _ _ (λ e z. omega arith)
       (λ e. by (λ (n : ℕ). n ≡ 29 → ⊥) _ _ _ (λ e. absurd (true≢false (sym (is_said e) ∙ not-lawless)))
       (λ e. by (λ (n : ℕ). n ≡ 29 → ⊥) _ _ _ (λ e. absurd (true≢false (sym (is_said e) ∙ not-unsound)))
-      (λ e z. omega arith))))))
+      (λ e z. omega arith)))))

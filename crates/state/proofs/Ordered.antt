@@ -3,7 +3,7 @@ use Prim.Native.Nat.{ℕ}
 use mathlib.Core.List.{List, [], ◌∷◌}
 use Rattle.times.specs.declared.Settings.{Settings}
 use Rattle.state.specs.World.{World, Called}
-use Rattle.state.specs.World.{refuse}
+use Rattle.state.specs.Calls.{refuse}
 use Rattle.state.specs.Runs.{Call, call, run}
 use Rattle.state.proofs.Acts.{calm}
 use Rattle.state.proofs.Walk.{Course, declined, carried, course}
@@ -26,7 +26,7 @@ module _ (t : Settings) (ts : ℕ) where
         small = o.small;
         firm = g.firm;
         apt = poised-apt g;
-        started = rw o.firm.station at (c.among (rw o.firm.station o.started));
+        started = rw c.started o.started;
         memory = c.memory o.memory;
       }
 

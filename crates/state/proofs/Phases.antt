@@ -1,17 +1,17 @@
 -- The phases by what they say of the station: a request is being sent, a pass is checked, the token goes to itself.
 -- Every other file asks these, so that a new phase is told here. Assumes nothing.
 use mathlib.Core.Bool.{Bool, true, false, true≢false}
-use mathlib.Core.Path.{◌≡◌, refl, sym}
+use mathlib.Core.Path.{◌≡◌, refl}
 use mathlib.Core.List.{List, [], ◌∷◌}
 use Prim.Native.Nat.{ℕ}
 use Rattle.choice.specs.Choice.{pick, same}
 use Rattle.ring.specs.Ring.{next_of}
 use Rattle.state.specs.declared.Phase.{Phase}
-use Rattle.state.specs.declared.Phase.TheVariants.{Idle, Awaited, Sdn, Check, ToSelf, Outside}
+use Rattle.state.specs.declared.Phase.TheVariants.{Idle, Awaited, Sdn, Check, ToSelf}
 use Rattle.state.specs.declared.Core.{Core}
 use Rattle.state.specs.World.{ends, queue_of}
 use Rattle.state.specs.Refusals.{odd_in, unlike_in}
-use Rattle.state.specs.Fresh.{begun, broken}
+use Rattle.state.specs.Calls.{begun, broken}
 use Rattle.state.specs.Holds.{holding}
 
 unfoldable pub flight : Phase → Bool
@@ -20,7 +20,6 @@ flight Awaited = true
 flight Sdn = true
 flight Check = false
 flight ToSelf = false
-flight (Outside g) = false
 
 unfoldable pub checking : Phase → Bool
 checking Idle = false
@@ -28,7 +27,6 @@ checking Awaited = false
 checking Sdn = false
 checking Check = true
 checking ToSelf = false
-checking (Outside g) = false
 
 unfoldable pub awaiting : Phase → Bool
 awaiting Idle = false
@@ -36,7 +34,6 @@ awaiting Awaited = true
 awaiting Sdn = false
 awaiting Check = false
 awaiting ToSelf = false
-awaiting (Outside g) = false
 
 unfoldable pub selfing : Phase → Bool
 selfing Idle = false
@@ -44,49 +41,6 @@ selfing Awaited = false
 selfing Sdn = false
 selfing Check = false
 selfing ToSelf = true
-selfing (Outside g) = false
-
--- outside the ring
-unfoldable pub away : Phase → Bool
-away Idle = false
-away Awaited = false
-away Sdn = false
-away Check = false
-away ToSelf = false
-away (Outside g) = true
-
-pub away-unsent : (x : Phase) → away x ≡ true → flight x ≡ false
-unfolding away flight
-away-unsent Idle e = refl
-away-unsent Awaited e = absurd (true≢false (sym e))
-away-unsent Sdn e = absurd (true≢false (sym e))
-away-unsent Check e = refl
-away-unsent ToSelf e = refl
-away-unsent (Outside g) e = refl
-
--- nothing is sent and no pass is under way
-unfoldable pub quiet : Phase → Bool
-quiet Idle = true
-quiet Awaited = false
-quiet Sdn = false
-quiet Check = false
-quiet ToSelf = false
-quiet (Outside g) = true
-
-pub record Quiet (x : Phase) : Type 0 where
-  pub unsent : flight x ≡ false
-  pub unchecked : checking x ≡ false
-  pub unpassed : selfing x ≡ false
-  pub unawaited : awaiting x ≡ false
-
-pub quiet_by : (x : Phase) → quiet x ≡ true → Quiet x
-unfolding quiet flight checking selfing awaiting
-quiet_by Idle e = record { unsent = refl; unchecked = refl; unpassed = refl; unawaited = refl }
-quiet_by Awaited e = absurd (true≢false (sym e))
-quiet_by Sdn e = absurd (true≢false (sym e))
-quiet_by Check e = absurd (true≢false (sym e))
-quiet_by ToSelf e = absurd (true≢false (sym e))
-quiet_by (Outside g) e = record { unsent = refl; unchecked = refl; unpassed = refl; unawaited = refl }
 
 -- ---- what the rules tell of a phase is told by these
 pub broken-by : (x : Phase) → broken x ≡ pick (flight x) (ends ∷ []) []
@@ -96,7 +50,6 @@ broken-by Awaited = refl
 broken-by Sdn = refl
 broken-by Check = refl
 broken-by ToSelf = refl
-broken-by (Outside g) = refl
 
 pub holding-by : (x : Phase) → holding x ≡ flight x
 unfolding flight holding
@@ -105,7 +58,6 @@ holding-by Awaited = refl
 holding-by Sdn = refl
 holding-by Check = refl
 holding-by ToSelf = refl
-holding-by (Outside g) = refl
 
 pub begun-by : (x : Phase) (n : ℕ) → begun x n ≡ pick (flight x) n 0
 unfolding flight begun pick
@@ -114,7 +66,6 @@ begun-by Awaited n = refl
 begun-by Sdn n = refl
 begun-by Check n = refl
 begun-by ToSelf n = refl
-begun-by (Outside g) n = refl
 
 pub odd-by : (x : Phase) (c : Core) (masters : List ℕ)
     → odd_in x c masters
@@ -127,7 +78,6 @@ odd-by Awaited c masters = refl
 odd-by Sdn c masters = refl
 odd-by Check c masters = refl
 odd-by ToSelf c masters = refl
-odd-by (Outside g) c masters = refl
 
 pub unlike-off : (x : Phase) (service : ℕ) → flight x ≡ false → unlike_in x service ≡ false
 unfolding flight unlike_in
@@ -136,4 +86,3 @@ unlike-off Awaited service e = absurd (true≢false e)
 unlike-off Sdn service e = absurd (true≢false e)
 unlike-off Check service e = refl
 unlike-off ToSelf service e = refl
-unlike-off (Outside g) service e = refl

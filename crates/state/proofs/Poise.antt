@@ -9,7 +9,7 @@ use lib.ListN.{length}
 use Rattle.choice.proofs.Rules.{pick_true, true_same, false_same}
 use Rattle.times.specs.declared.Settings.{Settings}
 use Rattle.ring.specs.Ring.{member, next_of, previous_of}
-use Rattle.ring.proofs.Laws.{member-alone, member-enter-other, member-remove-other, previous-is}
+use Rattle.ring.proofs.Laws.{member-enter-other, member-remove-other, previous-is}
 use Rattle.request.specs.declared.Record.{Record}
 use Rattle.request.specs.Record.{SIZE, DS, named}
 use Rattle.queue.specs.declared.Queue.{Queue}
@@ -26,20 +26,17 @@ use Rattle.state.specs.declared.Core.{Core}
 use Rattle.state.specs.declared.Choice.TheVariants.{Serve}
 use Rattle.state.specs.declared.Outcome.{Outcome}
 use Rattle.state.specs.World.{Rows, Site, Event, done, with_doing, with_hold, with_stranger, with_ps, with_queue}
-use Rattle.state.specs.World.{with_learner}
-use Rattle.state.specs.Listening.{readied, adopted, lone}
 use Rattle.state.specs.World.{queue_of, with_core, with_masters, with_marks, rows_of, with_rows}
 use Rattle.state.specs.Request.{record_in, sending, send_core, once, status_of, close_of}
 use Rattle.state.specs.Pass.{ns, passing as passing_on, pass_core, ps_without, without}
 use Rattle.state.specs.Hold.{choice, resting, rest, beginning, admit}
 use Rattle.state.specs.Refusals.{unlike_in, row_by}
-use Rattle.state.specs.Fresh.{fresh_core}
+use Rattle.state.specs.Calls.{fresh_core}
 use Rattle.state.proofs.Cases.{by, Any, any}
-use Rattle.state.proofs.Phases.{flight, checking, selfing, quiet, quiet_by}
+use Rattle.state.proofs.Phases.{flight, checking, selfing}
 use Rattle.state.proofs.Choices.{saw-high, saw-low}
 use Rattle.state.proofs.Acts.{Point, calm, free, choosing, passing, halting, clearing, Closing, replied, lost}
-use Rattle.state.proofs.Acts.{gone, Move, lets_go, rests, notes, admits, drops, spares, renews, learns, adopts, claims}
-use Rattle.state.proofs.Acts.{Act, opens}
+use Rattle.state.proofs.Acts.{gone, Move, lets_go, rests, notes, admits, drops, spares, renews, Act, opens}
 use Rattle.state.proofs.Acts.{serves, stops, quits, passes, repasses, repeats, closes, takes, hands, replies}
 use Rattle.state.proofs.Acts.{shows, restarts, breaks, clears-high, clears-low, sent, sent_again, taking}
 use Rattle.state.proofs.Acts.{grown_by, freed_of}
@@ -88,15 +85,9 @@ module _ (own : ℕ) (masters : List ℕ) (h l : Queue) (u v : List ℕ) where
       → (selfing x ≡ true → next_of masters own ≡ own) → Apt own masters h l u v x y
   unflown x y e c s = record { flying = λ z. absurd (true≢false (sym z ∙ e)); check = c; self = s }
 
-  pub apt-quiet : (x : Phase) (y : Priority) → quiet x ≡ true → Apt own masters h l u v x y
-  apt-quiet x y e =
-      let q = quiet_by x e in
-      unflown x y q.unsent (λ e. absurd (true≢false (sym e ∙ q.unchecked)))
-      (λ e. absurd (true≢false (sym e ∙ q.unpassed)))
-
   pub apt-idle : (y : Priority) → Apt own masters h l u v Idle y
-  unfolding quiet
-  apt-idle y = apt-quiet Idle y refl
+  unfolding flight checking selfing
+  apt-idle y = unflown Idle y refl (λ e. absurd (true≢false (sym e))) (λ e. absurd (true≢false (sym e)))
 
   -- sent for the first time
   apt-loaded : (x : Phase) (y : Priority) → checking x ≡ false → selfing x ≡ false
@@ -255,8 +246,7 @@ module _ (t : Settings) (ts : ℕ) (small : ts ≤ 126) where
 
   -- ---- moves
   pub poised-moved : {p q : Point} {s s' : Site} → Move Any p s q s' → Poised t ts p s → Poised t ts q s'
-  unfolding AptIn rest admit without adopted readied lone with_core with_masters with_doing with_stranger with_ps with_learner
-      resting fresh_core quiet
+  unfolding AptIn rest admit without with_core with_masters with_doing with_stranger with_ps resting fresh_core
   poised-moved (lets_go s h) g = record { firm = g.firm; apt = any }
   poised-moved (rests s) g = record { firm = g.firm; apt = apt-idle _ _ _ _ _ _ _ }
   poised-moved (notes a s h i j k) g =
@@ -278,24 +268,10 @@ module _ (t : Settings) (ts : ℕ) (small : ts ≤ 126) where
         apt = any;
       }
   poised-moved (spares s h) g = record { firm = g.firm; apt = any }
-  poised-moved (renews a b f s q n h i j) g =
+  poised-moved (renews a b masters s h i j) g =
       record {
-        firm = readdress g.firm (previous-small f.masters _ ts small g.firm.station) (omega arith) (h any);
-        apt = apt-quiet _ _ _ _ _ _ _ _ (q any);
-      }
-  poised-moved (learns x s e) g = record { firm = g.firm; apt = g.apt }
-  poised-moved (adopts masters s f h) g =
-      record {
-        firm =
-            readdress g.firm (previous-small masters _ ts small g.firm.station) g.firm.first (h any);
-        apt = apt-quiet _ _ _ _ _ _ _ _ refl;
-      }
-  poised-moved (claims s) g =
-      record {
-        firm =
-            readdress g.firm (rw g.firm.station small) g.firm.first
-            (rw g.firm.station (member-alone ts (omega (arith, small))));
-        apt = any;
+        firm = readdress g.firm (previous-small masters _ ts small g.firm.station) (omega arith) (h any);
+        apt = apt-idle _ _ _ _ _ _ _;
       }
 
   -- ---- acts

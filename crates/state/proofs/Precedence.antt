@@ -18,16 +18,14 @@ use Rattle.state.specs.Request.{send_core, once, close_of}
 use Rattle.state.specs.Pass.{pass_core, without}
 use Rattle.state.specs.Hold.{resting, rest, beginning, admit}
 use Rattle.state.specs.Answering as A
-use Rattle.state.specs.Fresh.{empty_queue, fresh_core}
+use Rattle.state.specs.Calls.{empty_queue, fresh_core}
 use Rattle.state.specs.Runs.{Call, run, Begun}
 use Rattle.state.specs.Precedence.{Line, nobody, joined, sent_by, served, line_after, line_last}
-use Rattle.state.specs.World.{with_learner}
-use Rattle.state.specs.Listening.{readied, adopted, lone}
 use Rattle.state.proofs.Cases.{Any, any}
-use Rattle.state.proofs.Phases.{flight, away-unsent, quiet_by}
+use Rattle.state.proofs.Phases.{flight}
 use Rattle.state.proofs.Choices.{saw-low}
 use Rattle.state.proofs.Acts.{Point, calm, free, choosing, passing, halting, clearing, Move, lets_go, rests}
-use Rattle.state.proofs.Acts.{notes, admits, drops, spares, renews, learns, adopts, claims, Act, opens, serves, stops, quits, passes}
+use Rattle.state.proofs.Acts.{notes, admits, drops, spares, renews, Act, opens, serves, stops, quits, passes}
 use Rattle.state.proofs.Acts.{repasses, repeats, closes, takes, hands, replies, shows, restarts, breaks}
 use Rattle.state.proofs.Acts.{clears-high, clears-low}
 use Rattle.state.proofs.Keeping.{ungrounded, Account, of_sendings, kept_run, met}
@@ -72,19 +70,14 @@ unfolding is_low
 unlow e = record { low = λ i j. absurd (true≢false (sym j ∙ ap is_low e)) }
 
 placed-moved : {p q : Point} {s s' : Site} → Move Any p s q s' → (h : Line) → Placed p s h → Placed q s' h
-unfolding KnowsIn rest admit without adopted readied lone with_core with_masters with_doing with_stranger with_ps
-    with_learner resting fresh_core flight
+unfolding KnowsIn rest admit without with_core with_masters with_doing with_stranger with_ps resting fresh_core flight
 placed-moved (lets_go s e) h p = record { count = p.count; knows = any }
 placed-moved (rests s) h p = record { count = p.count; knows = unflown refl }
 placed-moved (notes a s i j k l) h p = record { count = p.count; knows = p.knows }
 placed-moved (admits a s i j k) h p = record { count = p.count; knows = any }
 placed-moved (drops s e i) h p = record { count = p.count; knows = any }
 placed-moved (spares s e) h p = record { count = p.count; knows = any }
-placed-moved (renews a b f s q n i j k) h p =
-    record { count = p.count; knows = unflown (quiet_by f.phase (q any)).unsent }
-placed-moved (learns x s e) h p = record { count = p.count; knows = p.knows }
-placed-moved (adopts masters s e i) h p = record { count = p.count; knows = unflown refl }
-placed-moved (claims s) h p = record { count = p.count; knows = any }
+placed-moved (renews a b masters s i j k) h p = record { count = p.count; knows = unflown refl }
 
 placed-acted : {p q : Point} {s s' : Site} {e : Event} → Act Any p s e q s' → (h : Line) → Placed p s h
     → Meets e h × Placed q s' (line_after e h)
@@ -158,7 +151,7 @@ unfolding KnowsIn flight
 placed-begun w b =
     record {
       count = ap (λ (q : Queue). q.unconfirmed) (begun-queues w b).0 ∙ empty-line _;
-      knows = unflown (quiet_by _ (begun-marks w b).1).unsent;
+      knows = unflown (ap flight (begun-marks w b).1);
     }
 
 -- after a start and any calls, the high queue has as many unconfirmed requests as were accepted and not confirmed

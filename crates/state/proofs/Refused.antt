@@ -1,31 +1,25 @@
 -- A refused call leaves the world as it was: demand 1, of the calls of a run. Assumes nothing.
-use Prim.Native.Nat.{ℕ, zero, suc}
+use Prim.Native.Nat.{ℕ}
 use mathlib.Core.Bool.{Bool, true, false, true≢false}
-use mathlib.Core.Path.{◌≡◌, refl, sym, ap, ◌∙◌}
-use mathlib.Core.List.{List, [], ◌∷◌, ◌++◌, append-nil}
+use mathlib.Core.Path.{◌≡◌, refl, sym, ◌∙◌}
+use mathlib.Core.List.{List, [], ◌∷◌}
 use Rattle.laid.specs.Laid.{laid}
 use Rattle.laid.proofs.Laws.{laid_nil}
 use Rattle.frame.specs.declared.Answer.{Answer as Reading}
-use Rattle.queue.specs.declared.Queue.{Queue}
 use Rattle.state.specs.declared.Phase.{Phase}
-use Rattle.state.specs.declared.Priority.{Priority}
-use Rattle.state.specs.declared.Priority.TheVariants.{High, Low}
 use Rattle.state.specs.declared.Indication.TheVariants.{None}
 use Rattle.state.specs.World.{Site, World, Event, Done, Called, accepted, begins, ends, sends, confirmed}
-use Rattle.state.specs.World.{collected, indicated, resets, refused, queue_of}
+use Rattle.state.specs.World.{collected, indicated, resets, refused}
 use Rattle.state.specs.Hold.{token}
 use Rattle.state.specs.Answering as A
 use Rattle.state.specs.Told.{telling, untold, adds}
-use Rattle.state.specs.Calls.{awaited_read, sent_in, slot_in}
-use Rattle.state.specs.Fresh.{Fresh, dismissed, broken, count_of, dismissal, cleared}
-use Rattle.state.specs.World.{refuse}
+use Rattle.state.specs.Calls.{refuse, awaited_read, sent_in, slot_in, resetting}
 use Rattle.state.specs.Runs.{Call, call}
-use Rattle.state.proofs.Cases.{by, Any, any}
-use Rattle.state.proofs.Phases.{broken-by}
+use Rattle.state.proofs.Cases.{Any, any}
 use Rattle.state.proofs.Acts.{Point, calm, Act, opens, serves, stops, quits, passes, repasses, repeats, closes}
 use Rattle.state.proofs.Acts.{takes, hands, replies, shows, restarts, breaks, clears-high, clears-low, Trail}
 use Rattle.state.proofs.Acts.{stop, move, act}
-use Rattle.state.proofs.Walk.{Goes, goes-token, goes-awaited, goes-sent, goes-slot, trail-cleared, Carried}
+use Rattle.state.proofs.Walk.{Goes, goes-token, goes-awaited, goes-sent, goes-slot, trail-resetting, Carried}
 use Rattle.state.proofs.Walk.{Course, declined, carried, course}
 
 -- a refusal is among the events
@@ -130,7 +124,7 @@ pub calm-sent : (x : Phase) (clock : ℕ) (s : Site) → Calm (sent_in x clock s
 calm-sent x clock s = calmly (goes-sent ⊥ AnySet x clock s (λ z. absurd z) any)
 
 pub calm-slot : (x : Phase) (clock : ℕ) (s : Site) → Calm (slot_in x clock s)
-calm-slot x clock s = calmly (goes-slot ⊥ AnySet x clock s (λ z. absurd z) any (λ e h. any) (λ g e. any))
+calm-slot x clock s = calmly (goes-slot ⊥ AnySet x clock s (λ z. absurd z) any (λ e h. any))
 
 -- ---- a call that is carried out tells no refusal
 pub record Told (d : Called) : Type 0 where
@@ -139,29 +133,8 @@ pub record Told (d : Called) : Type 0 where
 pub told-carried : {c : Call} {w : World} {d : Called} → Carried c w d → Told d
 told-carried c = record { told = tame c.trail }
 
--- confirmations DS are no part of what a caller is told
-telling-dismissed : (p : Priority) (n count : ℕ) (q : Queue) (l : List Event)
-    → telling (dismissed p n count q ++ l) ≡ telling l
-unfolding dismissed telling adds
-telling-dismissed p zero count q l = refl
-telling-dismissed p (suc n) count q l = telling-dismissed p n 0 _ l
-
-telling-broken : (x : Phase) (l : List Event) → telling (broken x ++ l) ≡ telling l
-unfolding telling adds
-telling-broken x l =
-    rw (broken-by x) (by (λ (b : List Event). telling (b ++ l) ≡ telling l) _ _ _ (λ e. refl) (λ e. refl))
-
-pub telling-cleared : (f : Fresh) (w : World) → telling (cleared f w).events ≡ untold
-unfolding cleared dismissal telling adds
-telling-cleared f w =
-    let c = w.site.core in
-    telling-broken c.doing.phase _
-    ∙ telling-dismissed High (queue_of High c).unconfirmed (count_of High c) (queue_of High c) _
-    ∙ ap telling (sym (append-nil (dismissal Low c)))
-    ∙ telling-dismissed Low (queue_of Low c).unconfirmed (count_of Low c) (queue_of Low c) []
-
-pub told-cleared : (f : Fresh) (w : World) → Told (cleared f w)
-told-cleared f w = record { told = tame (trail-cleared ⊥ f w (λ z. absurd z) (λ z. absurd z) (λ z. absurd z)) }
+pub told-resetting : (w : World) → Told (resetting w)
+told-resetting w = record { told = tame (trail-resetting ⊥ w (λ z. absurd z)) }
 
 -- ---- demand 1: "a refused call changes nothing"
 left_by : {c : Call} {w : World} {d : Called} → Course w c d → refuses d.events ≡ true → d.world ≡ w

@@ -23,18 +23,16 @@ use Rattle.state.specs.Request.{record_in, record_of, sending, send_core, once, 
 use Rattle.state.specs.Pass.{pass_core, without}
 use Rattle.state.specs.Hold.{resting, rest, beginning, admit}
 use Rattle.state.specs.Answering as A
-use Rattle.state.specs.Fresh.{fresh_core}
+use Rattle.state.specs.Calls.{fresh_core}
 use Rattle.state.specs.Runs.{Call, submit, call, run, Begun}
 use Rattle.state.specs.Counts.{alike}
 use Rattle.state.specs.Twelve.{Does, station, retrying}
 use Rattle.state.specs.Retries.{sendings_by, sendings_after, sendings_last, unrepeated, submits, go_by_their_limits}
 use Rattle.state.specs.Submitted.{collects, never}
-use Rattle.state.specs.World.{with_learner}
-use Rattle.state.specs.Listening.{readied, adopted, lone}
 use Rattle.state.proofs.Cases.{Any, any}
-use Rattle.state.proofs.Phases.{flight, away-unsent, quiet_by}
+use Rattle.state.proofs.Phases.{flight}
 use Rattle.state.proofs.Acts.{Point, calm, free, choosing, passing, halting, clearing, Move, lets_go, rests}
-use Rattle.state.proofs.Acts.{notes, admits, drops, spares, renews, learns, adopts, claims, Act, opens, serves, stops, quits, passes}
+use Rattle.state.proofs.Acts.{notes, admits, drops, spares, renews, Act, opens, serves, stops, quits, passes}
 use Rattle.state.proofs.Acts.{repasses, repeats, closes, takes, hands, replies, shows, restarts, breaks}
 use Rattle.state.proofs.Acts.{clears-high, clears-low, sent_again, grown_by, freed_of}
 use Rattle.state.proofs.Keeping.{Account, of_sendings, kept_run}
@@ -121,18 +119,14 @@ module _ (p : Priority) (n : ℕ) where
   Stands (clearing a b) s k = k ≡ 0
 
   stands-moved : {a b : Point} {s s' : Site} → Move Any a s b s' → (k : ℕ) → Stands a s k → Stands b s' k
-  unfolding Stands rest admit without adopted readied lone with_core with_masters with_doing with_stranger with_ps
-      with_learner resting fresh_core flight
+  unfolding Stands rest admit without with_core with_masters with_doing with_stranger with_ps resting fresh_core flight
   stands-moved (lets_go s e) k i = counted_none (e any) i
   stands-moved (rests s) k i = uncounted refl i
   stands-moved (notes a s e f g h) k i = i
   stands-moved (admits a s e f g) k i = i
   stands-moved (drops s e h) k i = counted_none (ap flight (e any)) i
   stands-moved (spares s e) k i = i
-  stands-moved (renews a b f s q o e g h) k i = uncounted (quiet_by f.phase (q any)).unsent i
-  stands-moved (learns x s e) k i = i
-  stands-moved (adopts masters s e h) k i = uncounted refl (counted_none (away-unsent _ e) i)
-  stands-moved (claims s) k i = i
+  stands-moved (renews a b masters s e f g) k i = uncounted refl i
 
   -- the first unconfirmed request of the queue y is sent, sent again and confirmed: it is this one, or not
   abbrev ours : Priority → Site → Bool
@@ -215,7 +209,7 @@ module _ (p : Priority) (n : ℕ) where
 
   stands-begun : (w : World) → Begun w → Stands calm w.site 0
   unfolding Stands flight
-  stands-begun w b = uncounted (quiet_by _ (begun-marks w b).1).unsent refl
+  stands-begun w b = uncounted (ap flight (begun-marks w b).1) refl
 
 -- ---- what is asked of each sending of the request: that it was sent before at most as often as its limit says
 unfoldable Goes : Priority → ℕ → ℕ → What → List ℕ → ℕ → ℕ → Type 0

@@ -16,13 +16,11 @@ use Rattle.state.specs.Request.{send_core, close_of}
 use Rattle.state.specs.Pass.{pass_core, without}
 use Rattle.state.specs.Hold.{rest, beginning, admit}
 use Rattle.state.specs.Answering as A
-use Rattle.state.specs.Fresh.{empty_queue, fresh_core}
+use Rattle.state.specs.Calls.{empty_queue, fresh_core}
 use Rattle.state.specs.Runs.{Call, run, Begun}
-use Rattle.state.specs.World.{with_learner}
-use Rattle.state.specs.Listening.{readied, adopted, lone}
 use Rattle.state.proofs.Cases.{Any, any}
 use Rattle.state.proofs.Phases.{flight}
-use Rattle.state.proofs.Acts.{Point, Move, lets_go, rests, notes, admits, drops, spares, renews, learns, adopts, claims, Act, opens}
+use Rattle.state.proofs.Acts.{Point, Move, lets_go, rests, notes, admits, drops, spares, renews, Act, opens}
 use Rattle.state.proofs.Acts.{serves, stops, quits, passes, repasses, repeats, closes, takes, hands, replies}
 use Rattle.state.proofs.Acts.{shows, restarts, breaks, clears-high, clears-low}
 use Rattle.state.proofs.Keeping.{Account, kept_run}
@@ -78,18 +76,14 @@ module _ (y : Priority) (t : Settings) (ts : ℕ) (small : ts ≤ 126) where
 
   -- ---- moves leave both queues
   lined_moved : {p q : Point} {s s' : Site} → Move Any p s q s' → line_at s' ≡ line_at s
-  unfolding rest admit without adopted readied lone with_core with_masters with_doing with_stranger with_ps
-      with_learner fresh_core
+  unfolding rest admit without with_core with_masters with_doing with_stranger with_ps fresh_core
   lined_moved (lets_go s h) = refl
   lined_moved (rests s) = refl
   lined_moved (notes a s h i j k) = refl
   lined_moved (admits a s h i j) = refl
   lined_moved (drops s e h) = refl
   lined_moved (spares s h) = refl
-  lined_moved (renews a b f s q n h i j) = refl
-  lined_moved (learns x s e) = refl
-  lined_moved (adopts masters s e h) = refl
-  lined_moved (claims s) = refl
+  lined_moved (renews a b masters s h i j) = refl
 
   -- ---- and so do most acts
   lined-acted : {p q : Point} {s s' : Site} {e : Event} → Act Any p s e q s' → Poised t ts p s

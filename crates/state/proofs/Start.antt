@@ -13,18 +13,17 @@ use Rattle.ring.specs.Ring.{member}
 use Rattle.request.specs.Record.{SIZE}
 use Rattle.queue.specs.Queue.{AREA}
 use Rattle.rows.proofs.Check.{sound_empty}
+use Rattle.state.specs.declared.Phase.TheVariants.{Idle}
 use Rattle.state.specs.declared.State.{State}
 use Rattle.state.specs.Calls.{Started, Unstarted, Station}
 use Rattle.state.specs.World.{Rows, World, world_of, state_of}
 use Rattle.state.specs.Request.{UNKNOWN}
 use Rattle.state.specs.Refusals.{unstartable}
-use Rattle.state.specs.Calls.{start}
-use Rattle.state.specs.Fresh.{Given, present, absent, begins_with, empty_queue, forgotten, no_rows, fresh_core, fresh_world}
+use Rattle.state.specs.Calls.{empty_queue, forgotten, no_rows, fresh_core, fresh_world, start}
 use Rattle.state.specs.Runs.{Call, run, Begun}
 use Rattle.state.proofs.Cases.{positive}
 use Rattle.state.proofs.Filed.{Filed, named-empty}
-use Rattle.state.proofs.Poise.{apt-quiet, previous-small}
-use Rattle.state.proofs.Phases.{quiet}
+use Rattle.state.proofs.Poise.{apt-idle, previous-small}
 use Rattle.state.proofs.Order.{Orderly}
 use Rattle.state.proofs.Never.{tells, run-never-29}
 
@@ -60,43 +59,37 @@ startable t ts masters e =
     record { ruly = is_said a.0; small = false-less _ _ b.0; among = is_said c.0 }
 
 -- the state that start gives
-abbrev fresh : Settings → ℕ → Given → List ℕ → ℕ → ℕ → State
-fresh t ts g points high low =
+abbrev fresh : Settings → ℕ → List ℕ → List ℕ → ℕ → ℕ → State
+fresh t ts masters points high low =
     state_of
-    (fresh_world (fresh_core t ts (begins_with g ts) (empty_queue high) (empty_queue low)) (begins_with g ts).masters points
-    (replicate 255 0) no_rows no_rows)
+    (fresh_world (fresh_core t ts masters (empty_queue high) (empty_queue low)) masters points (replicate 255 0) no_rows
+    no_rows)
 
-record Accepts (t : Settings) (ts : ℕ) (g : Given) (points : List ℕ) (high low : ℕ) (s : State) : Type 0 where
-  startable : Startable t ts (begins_with g ts).masters
+record Given (t : Settings) (ts : ℕ) (masters points : List ℕ) (high low : ℕ) (s : State) : Type 0 where
+  startable : Startable t ts masters
   some_high : 0 < high
   few_high : high ≤ 64
   some_low : 0 < low
   few_low : low ≤ 64
-  is : s ≡ fresh t ts g points high low
+  is : s ≡ fresh t ts masters points high low
 
-start-given : (t : Settings) (ts : ℕ) (g : Given) (points : List ℕ) (high low : ℕ) (s : State)
-    → start t ts g points high low ≡ Station s → Accepts t ts g points high low s
+start-given : (t : Settings) (ts : ℕ) (masters points : List ℕ) (high low : ℕ) (s : State)
+    → start t ts masters points high low ≡ Station s → Given t ts masters points high low s
 unfolding start
-start-given t ts g points high low s e =
+start-given t ts masters points high low s e =
     let a = past _ _ _ s e in
     let b = past _ _ _ s a.1 in
     let c = past _ _ _ s b.1 in
     let d = past _ _ _ s c.1 in
     let f = past _ _ _ s d.1 in
     record {
-      startable = startable t ts (begins_with g ts).masters (is_said a.0);
+      startable = startable t ts masters (is_said a.0);
       some_high = positive high (false_same _ _ b.0);
       few_high = false-less _ _ c.0;
       some_low = positive low (false_same _ _ d.0);
       few_low = false-less _ _ f.0;
       is = same-state _ s f.1;
     }
-
--- both starts begin quiet
-quiet-begins : (g : Given) (ts : ℕ) → quiet (begins_with g ts).phase ≡ true
-unfolding begins_with quiet
-quiet-begins (present masters) ts = refl
-quiet-begins absent ts = refl
 
 -- ---- an empty queue is in order
 filed-empty : (ts n : ℕ) (r : Rows) → 0 < n → n ≤ 64 → length r.row ≡ SIZE * n → length r.area ≡ AREA * n
@@ -110,12 +103,12 @@ filed-empty ts n r h l a b =
       status = named-empty _ r.row refl;
     }
 
-orderly-fresh : (t : Settings) (ts : ℕ) (y : Given) (points : List ℕ) (high low : ℕ) (s : State) (u v : Rows)
-    → Accepts t ts y points high low s → length u.row ≡ SIZE * high → length u.area ≡ AREA * high
+orderly-fresh : (t : Settings) (ts : ℕ) (masters points : List ℕ) (high low : ℕ) (s : State) (u v : Rows)
+    → Given t ts masters points high low s → length u.row ≡ SIZE * high → length u.area ≡ AREA * high
     → length v.row ≡ SIZE * low → length v.area ≡ AREA * low
-    → Orderly t ts (world_of (fresh t ts y points high low) u v)
+    → Orderly t ts (world_of (fresh t ts masters points high low) u v)
 unfolding world_of state_of fresh_world fresh_core forgotten
-orderly-fresh t ts y points high low s u v g a b c d =
+orderly-fresh t ts masters points high low s u v g a b c d =
     record {
       ruly = g.startable.ruly;
       small = g.startable.small;
@@ -123,26 +116,26 @@ orderly-fresh t ts y points high low s u v g a b c d =
           record {
             settings = refl;
             station = refl;
-            previous = previous-small (begins_with y ts).masters ts ts g.startable.small refl;
+            previous = previous-small masters ts ts g.startable.small refl;
             first = omega arith;
             among = g.startable.among;
             high = filed-empty ts high u g.some_high g.few_high a b;
             low = filed-empty ts low v g.some_low g.few_low c d;
           };
-      apt = apt-quiet _ _ _ _ _ _ _ _ (quiet-begins y ts);
+      apt = apt-idle _ _ _ _ _ _ _;
       started = g.startable.among;
       memory = record { source = omega arith; reply = omega arith };
     }
 
 -- what start gave, with the rows that are lent
 begun-is : (w : World) (b : Begun w)
-    → w ≡ world_of (fresh b.settings b.ts b.given b.points b.high b.low) b.upper b.lower
+    → w ≡ world_of (fresh b.settings b.ts b.masters b.points b.high b.low) b.upper b.lower
 begun-is w b = rw (b.world, (start-given _ _ _ _ _ _ _ b.started).is) refl
 
 pub begun-orderly : (w : World) (b : Begun w) → Orderly b.settings b.ts w
 begun-orderly w b =
     rw (begun-is w b)
-    (orderly-fresh b.settings b.ts b.given b.points b.high b.low b.state b.upper b.lower
+    (orderly-fresh b.settings b.ts b.masters b.points b.high b.low b.state b.upper b.lower
     (start-given _ _ _ _ _ _ _ b.started) b.upper_row b.upper_area b.lower_row b.lower_area)
 
 -- both queues are empty
@@ -151,19 +144,16 @@ pub begun-queues : (w : World) (b : Begun w)
 unfolding world_of state_of fresh_world fresh_core
 begun-queues w b = rw (begun-is w b) (refl, refl)
 
--- every mark is unknown, and nothing is being sent
-pub begun-marks : (w : World) (b : Begun w)
-    → (w.site.marks ≡ replicate 127 UNKNOWN) × (quiet w.site.core.doing.phase ≡ true)
+-- every mark is unknown, and the phase is Idle
+pub begun-marks : (w : World) → Begun w
+    → (w.site.marks ≡ replicate 127 UNKNOWN) × (w.site.core.doing.phase ≡ Idle)
 unfolding world_of state_of fresh_world fresh_core
-begun-marks w b = rw (begun-is w b) (refl, quiet-begins b.given b.ts)
+begun-marks w b = rw (begun-is w b) (refl, refl)
 
--- the phase, what is learned, the set in force and the one kept for reset are those of what start was given
-pub begun_fresh : (w : World) (b : Begun w)
-    → (w.site.core.doing.phase ≡ (begins_with b.given b.ts).phase)
-    × ((w.site.core.learner ≡ (begins_with b.given b.ts).learner)
-    × ((w.site.masters ≡ (begins_with b.given b.ts).masters) × (w.started ≡ (begins_with b.given b.ts).masters)))
+-- the set in force and the one kept for reset are the one that start was given
+pub begun-masters : (w : World) (b : Begun w) → (w.site.masters ≡ b.masters) × (w.started ≡ b.masters)
 unfolding world_of state_of fresh_world fresh_core
-begun_fresh w b = rw (begun-is w b) (refl, (refl, (refl, refl)))
+begun-masters w b = rw (begun-is w b) (refl, refl)
 
 -- "one that refuses states of its own making" is shut out: "in a run as demand 3 has it, no call is refused 29"
 pub begun-never-29 : (w : World) → Begun w → (l : List Call) → tells 29 (run l w).events ≡ false

@@ -17,20 +17,19 @@ use Rattle.rows.specs.Rows.{at, put, confirm}
 use Rattle.state.specs.declared.Priority.TheVariants.{High, Low}
 use Rattle.state.specs.declared.Doing.{Doing}
 use Rattle.state.specs.World.{Site, World, Event, Called, collected, with_doing, with_hold, with_stranger, with_ps}
-use Rattle.state.specs.Listening.{readied, adopted, lone}
-use Rattle.state.specs.World.{with_learner, with_queue, queue_of, with_core, with_masters, rows_of, with_rows}
+use Rattle.state.specs.World.{with_queue, queue_of, with_core, with_masters, rows_of, with_rows}
 use Rattle.state.specs.Request.{once}
 use Rattle.state.specs.Pass.{pass_core, without}
 use Rattle.state.specs.Hold.{rest, resting, beginning, admit}
 use Rattle.state.specs.Answering as A
-use Rattle.state.specs.Fresh.{count_of, fresh_core}
+use Rattle.state.specs.Calls.{count_of, fresh_core}
 use Rattle.state.specs.Runs.{Call, run}
 use Rattle.state.specs.Fate.{Fate, meets, fate, collected_with}
 use Rattle.state.proofs.Cases.{Any, any}
-use Rattle.state.proofs.Phases.{flight, away-unsent, quiet_by}
+use Rattle.state.proofs.Phases.{flight}
 use Rattle.state.proofs.Choices.{saw-high, saw-low, saw-none}
 use Rattle.state.proofs.Acts.{Point, calm, free, choosing, passing, halting, clearing, Move, lets_go, rests}
-use Rattle.state.proofs.Acts.{notes, admits, drops, spares, renews, learns, adopts, claims, Act, opens, serves, stops, quits, passes}
+use Rattle.state.proofs.Acts.{notes, admits, drops, spares, renews, Act, opens, serves, stops, quits, passes}
 use Rattle.state.proofs.Acts.{repasses, repeats, closes, takes, hands, replies, shows, restarts, breaks}
 use Rattle.state.proofs.Acts.{clears-high, clears-low, freed_of}
 use Rattle.state.proofs.Keeping.{ungrounded, Account, kept_run}
@@ -115,18 +114,14 @@ module _ (p k limit : ℕ) where
 
   -- ---- moves and acts
   stands-moved : {x y : Point} {s s' : Site} → Move Any x s y s' → (f : Fate) → Stands x s f → Stands y s' f
-  unfolding Stands rest admit without adopted readied lone with_core with_masters with_doing with_stranger with_ps with_learner
-      resting fresh_core flight
+  unfolding Stands rest admit without with_core with_masters with_doing with_stranger with_ps resting fresh_core flight
   stands-moved (lets_go s h) f i = rested p k limit (h any) i
   stands-moved (rests s) f i = at_rest p k limit refl i
   stands-moved (notes a s h j l m) f i = i
   stands-moved (admits a s h j l) f i = i
   stands-moved (drops s e h) f i = rested p k limit (ap flight (e any)) i
   stands-moved (spares s h) f i = i
-  stands-moved (renews a b g s q n h j l) f i = at_rest p k limit (quiet_by g.phase (q any)).unsent (emptied p limit j i)
-  stands-moved (learns x s e) f i = i
-  stands-moved (adopts masters s e h) f i = at_rest p k limit refl (rested p k limit (away-unsent _ e) i)
-  stands-moved (claims s) f i = i
+  stands-moved (renews a b masters s h j l) f i = at_rest p k limit refl (emptied p limit j i)
 
   -- an event that makes nothing of it
   told : {g : Doing} {q : Queue} {row : List ℕ} (e : Event) (f : Fate) → meets p e f ≡ f

@@ -20,8 +20,7 @@ use Rattle.state.specs.declared.Priority.{Priority}
 use Rattle.state.specs.World.{Site, World, Event, Done, Called, accepted, refused, done, queue_of, rows_of, with_site}
 use Rattle.state.specs.Refusals.{unlent, lawless}
 use Rattle.state.specs.Calls as Calls
-use Rattle.state.specs.Calls.{submitting, limited_in}
-use Rattle.state.specs.World.{called, refuse}
+use Rattle.state.specs.Calls.{called, refuse, submitting, limited_in}
 use Rattle.state.specs.Runs.{submit, call}
 use Rattle.state.proofs.Cases.{by}
 use Rattle.state.proofs.Acts.{taking, grown_by}
@@ -76,9 +75,8 @@ pub submission : (y : Priority) (r : Record) (x : List ℕ) (w : World)
 unfolding call Calls.submit
 submission y r x w =
     by (Submission y (limited_in w r) x w) _ _ _ (λ e. declines 21 (λ z. omega (arith, z)))
-    (λ l. by (Submission y (limited_in w r) x w) _ _ _ (λ e. declines 31 (λ z. omega (arith, z)))
-    (λ h. by (Submission y (limited_in w r) x w) _ _ _ (λ e. declines 29 (λ z. omega (arith, z)))
-    (λ g. submission-by y (limited_in w r) x w (is_said l) (is_said g) (outcome _ _ (limited_in w r) x _ _))))
+    (λ l. by (Submission y (limited_in w r) x w) _ _ _ (λ e. declines 29 (λ z. omega (arith, z)))
+    (λ g. submission-by y (limited_in w r) x w (is_said l) (is_said g) (outcome _ _ (limited_in w r) x _ _)))
 
 -- likewise by a limit that is the station's
 pub submission-by-limit : {limit : ℕ} (y : Priority) (r : Record) (x : List ℕ) (w : World)

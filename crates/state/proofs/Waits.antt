@@ -27,17 +27,14 @@ use Rattle.state.specs.Request.{head_for, record_in, octets_in, after_last, wait
 use Rattle.state.specs.Pass.{passing as passing_on, pass_core, without}
 use Rattle.state.specs.Hold.{resting, rest, beginning, admit}
 use Rattle.state.specs.Answering as A
-use Rattle.state.specs.Fresh.{fresh_core}
-use Rattle.state.specs.Listening.{responder}
+use Rattle.state.specs.Calls.{responder, fresh_core}
 use Rattle.state.specs.Runs.{Call, run, Begun}
 use Rattle.state.specs.Counts.{control_in, counts}
 use Rattle.state.specs.Waits.{sdn_by, sdn_after, sdn_last, wait_due}
-use Rattle.state.specs.World.{with_learner}
-use Rattle.state.specs.Listening.{readied, adopted, lone}
 use Rattle.state.proofs.Cases.{by, Any, any}
-use Rattle.state.proofs.Phases.{flight, away-unsent, quiet_by, checking, awaiting}
+use Rattle.state.proofs.Phases.{flight, checking, awaiting}
 use Rattle.state.proofs.Acts.{Point, calm, free, choosing, passing, halting, clearing, Move, lets_go, rests}
-use Rattle.state.proofs.Acts.{notes, admits, drops, spares, renews, learns, adopts, claims, Act, opens, serves, stops, quits, passes}
+use Rattle.state.proofs.Acts.{notes, admits, drops, spares, renews, Act, opens, serves, stops, quits, passes}
 use Rattle.state.proofs.Acts.{repasses, repeats, closes, takes, hands, replies, shows, restarts, breaks}
 use Rattle.state.proofs.Acts.{clears-high, clears-low}
 use Rattle.state.proofs.Keeping.{Account, of_sendings, met}
@@ -129,8 +126,7 @@ served-record Low s = refl
 -- ---- moves and acts
 stands-moved : {p q : Point} {s s' : Site} → Move Any p s q s' → (b : Bool) → Stands p s.core.doing b
     → Stands q s'.core.doing b
-unfolding Stands rest admit without adopted readied lone with_core with_masters with_doing with_stranger with_ps
-    with_learner resting fresh_core flight
+unfolding Stands rest admit without with_core with_masters with_doing with_stranger with_ps resting fresh_core flight
     checking awaiting
 stands-moved (lets_go s h) b i = any
 stands-moved (rests s) b i = unmindful refl refl refl
@@ -138,12 +134,7 @@ stands-moved (notes a s h j k l) b i = i
 stands-moved (admits a s h j k) b i = any
 stands-moved (drops s e h) b i = (i.checks (ap checking (e any))).0
 stands-moved (spares s h) b i = any
-stands-moved (renews m n f s q o h j k) b i =
-    let a = quiet_by f.phase (q any) in
-    unmindful a.unsent a.unchecked a.unawaited
-stands-moved (learns x s e) b i = i
-stands-moved (adopts masters s e h) b i = unmindful refl refl refl
-stands-moved (claims s) b i = any
+stands-moved (renews m n masters s h j k) b i = unmindful refl refl refl
 
 stands-acted : (t : Settings) (ts : ℕ) {p q : Point} {s s' : Site} {e : Event} → Act Any p s e q s' → (b : Bool)
     → Poised t ts p s → Stands p s.core.doing b → Meets t e b × Stands q s'.core.doing (sdn_after e b)
@@ -213,8 +204,8 @@ waits t ts small =
 paced-begun : (w : World) → Begun w → Stands calm w.site.core.doing false
 unfolding Stands flight checking awaiting
 paced-begun w b =
-    let m = quiet_by _ (begun-marks w b).1 in
-    unmindful m.unsent m.unchecked m.unawaited
+    let m = begun-marks w b in
+    unmindful (ap flight m.1) (ap checking m.1) (ap awaiting m.1)
 
 request-waits : (t : Settings) (p : Priority) (n : ℕ) (o : List ℕ) (k : ℕ) (b : Bool)
     → Meets t (sends (aRequest p n) o k) b → k ≡ wait_due t b

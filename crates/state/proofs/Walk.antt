@@ -14,11 +14,7 @@ use Rattle.frame.specs.declared.Fields.TheVariants.{Token, Short, Frame}
 use Rattle.frame.specs.declared.Answer.{Answer as Reading}
 use Rattle.frame.specs.declared.Answer.TheVariants.{Refused as Unread, Read}
 use Rattle.frame.specs.Reading.{read}
-use Rattle.frame.specs.declared.Address.{Address}
 use Rattle.ring.specs.Ring.{member}
-use Rattle.ring.proofs.Laws.{member-alone}
-use Rattle.learn.specs.Learning.{takes}
-use Rattle.learn.proofs.Members.{row_keeps, takes-keeps}
 use Rattle.request.specs.declared.Record.{Record}
 use Rattle.queue.specs.declared.Queue.{Queue}
 use Rattle.queue.specs.declared.Collected.{Collected}
@@ -26,10 +22,8 @@ use Rattle.queue.specs.declared.Collected.TheVariants.{Refused as Uncollected, H
 use Rattle.queue.specs.Queue as Q
 use Rattle.queue.specs.Queue.{freed}
 use Rattle.rows.specs.Rows.{Left, left, at, confirm, drain, handed}
-use Rattle.state.specs.declared.Stage.{Stage}
-use Rattle.state.specs.declared.Stage.TheVariants.{Listening, Ready, Stopped}
 use Rattle.state.specs.declared.Phase.{Phase}
-use Rattle.state.specs.declared.Phase.TheVariants.{Idle, Awaited, Sdn, Check, ToSelf, Outside}
+use Rattle.state.specs.declared.Phase.TheVariants.{Idle, Awaited, Sdn, Check, ToSelf}
 use Rattle.state.specs.declared.Priority.{Priority}
 use Rattle.state.specs.declared.Priority.TheVariants.{High, Low}
 use Rattle.state.specs.declared.Core.{Core}
@@ -40,7 +34,7 @@ use Rattle.state.specs.declared.Verdict.{Verdict}
 use Rattle.state.specs.declared.Verdict.TheVariants.{Plausible, Vain, Foreign}
 use Rattle.state.specs.World.{Rows, Site, World, Event, Done, Called, refused, still, done, and_then, with_doing}
 use Rattle.state.specs.World.{with_queue, queue_of, with_core, with_masters, with_marks, rows_of, with_rows, with_site}
-use Rattle.state.specs.World.{with_ps, with_learner, with_started, with_memory, called, refuse, nothing}
+use Rattle.state.specs.World.{with_memory}
 use Rattle.state.specs.Request.{send_events, send, again_events, again_of, again, close_of, close}
 use Rattle.state.specs.Pass.{ns, pass_events, pass, pass_again, without, recheck}
 use Rattle.state.specs.Hold.{choice, finish, chosen, choose, resting, rest, beginning, begin, admit, token}
@@ -48,30 +42,24 @@ use Rattle.state.specs.Hold.{ended, retry, over, given_up, concluded}
 use Rattle.state.specs.Answering.{UPDATE, Answered}
 use Rattle.state.specs.Refusals.{lawless}
 use Rattle.state.specs.Calls as Calls
-use Rattle.state.specs.Calls.{replying, collecting, idle}
-use Rattle.state.specs.Listening.{responder, learned, learns, readied, adopted, entering, token_heard}
-use Rattle.state.specs.Listening.{sender_of, own_once, own_heard, others_heard, good_heard, outside, lone, claim}
+use Rattle.state.specs.Calls.{called, replying, refuse, nothing, collecting, responder, idle}
 use Rattle.state.specs.Calls.{idle_read}
-use Rattle.state.specs.Calls.{awaited_read, heard, sent_in, slot_in}
-use Rattle.state.specs.Fresh.{dismissed, dismissal, broken, count_of}
-use Rattle.state.specs.Calls.{given_to, resetting}
-use Rattle.state.specs.Fresh.{Given, Fresh, deaf, begins_with, stopped, drained, forgotten, fresh_world, cleared}
+use Rattle.state.specs.Calls.{awaited_read, heard, sent_in, slot_in, dismissed, dismissal, broken, count_of}
+use Rattle.state.specs.Calls.{drained, forgotten, fresh_world, resetting}
 use Rattle.state.specs.Runs.{Call, call, sending_of, sendings_in}
 use Rattle.state.specs.Submitted.{never}
 use Rattle.state.specs.Runs.Call.{submit, frame, sent, slot, reset, collect}
-use Rattle.state.specs.Masters.{Changed, unchanged, entered, removed, restored, learnt, learnt-entered, claimed}
-use Rattle.state.specs.Masters.{halted, afresh, learning_of, list_of}
+use Rattle.state.specs.Masters.{Changed, unchanged, entered, removed, restored}
 use Rattle.state.proofs.Cases.{by, Any, any, positive}
-use Rattle.state.proofs.Facts.{lawful, lawful-kept, unrefused-lawful}
-use Rattle.state.proofs.Phases.{flight, checking, away, quiet, broken-by}
+use Rattle.state.proofs.Facts.{lawful-kept}
+use Rattle.state.proofs.Phases.{flight, checking, broken-by}
 use Rattle.state.proofs.Acts.{Point, calm, free, choosing, passing, halting, clearing, Closing, Move, Act, Trail}
-use Rattle.state.proofs.Acts.{stop, move, act, filled, Inside, Within, Heir}
+use Rattle.state.proofs.Acts.{stop, move, act, filled}
 use Rattle.state.proofs.Acts as Acts
-use Rattle.state.proofs.Taught.{Taught, not_yet, taken-up, taught_by}
 use Rattle.state.proofs.Submission.{Submission, declines, admits, submission}
 use Rattle.state.proofs.Weights.{weight, weight_in, weights-append, files, Spare, light, solo, spare-sendings}
 use Rattle.state.proofs.Weights.{spare-unfiled, spare-beside}
-use Rattle.state.proofs.Answers.{Answers, none, replied, shown, Answering, answering-answer, answers-only, few-answers}
+use Rattle.state.proofs.Answers.{Answers, none, replied, shown, Answering, answering-answer, few-answers}
 use Rattle.state.proofs.Hearing.{Memorable, Lawful, status_by, Minds, minds-answer, read-token, read-source}
 use Rattle.state.proofs.Hearing.{lawful-judged, short-updates}
 use Rattle.state.proofs.Places.{fewer}
@@ -198,24 +186,16 @@ module _ (k : Type 0) (m : List ℕ → Type 0) where
   goes-sent Sdn clock s e i = goes-ended Sdn _ [] clock s e (λ z. Acts.gone) i
   goes-sent Check clock s e i = goes-still calm s i
   goes-sent ToSelf clock s e i = goes_after (Acts.lets_go s (λ z. ap flight (e z))) (goes-begin clock s i)
-  goes-sent (Outside g) clock s e i = goes-still calm s i
-
-  -- ---- a claim
-  goes-claim : (clock : ℕ) (s : Site) → (k → flight s.core.doing.phase ≡ false) → m (lone s).masters
-      → Goes k m calm s calm (claim clock s)
-  unfolding claim
-  goes-claim clock s f i = goes_after (Acts.lets_go s f) (goes_after (Acts.claims s) (goes-begin clock (lone s) i))
 
   pub goes-slot : (x : Phase) (clock : ℕ) (s : Site) → (k → s.core.doing.phase ≡ x) → m s.masters
       → ((k → s.core.doing.phase ≡ Check) → 3 ≤ s.core.doing.sendings → m (without s).masters)
-      → ((g : Stage) → x ≡ Outside g → m (lone s).masters) → Goes k m calm s calm (slot_in x clock s)
-  unfolding slot_in flight
-  goes-slot Idle clock s e i j l = goes-still calm s i
-  goes-slot Awaited clock s e i j l = goes-retry clock s e i
-  goes-slot Sdn clock s e i j l = goes-still calm s i
-  goes-slot Check clock s e i j l = goes-recheck s e i (j e)
-  goes-slot ToSelf clock s e i j l = goes-still calm s i
-  goes-slot (Outside g) clock s e i j l = goes-claim clock s (λ z. ap flight (e z)) (l g refl)
+      → Goes k m calm s calm (slot_in x clock s)
+  unfolding slot_in
+  goes-slot Idle clock s e i j = goes-still calm s i
+  goes-slot Awaited clock s e i j = goes-retry clock s e i
+  goes-slot Sdn clock s e i j = goes-still calm s i
+  goes-slot Check clock s e i j = goes-recheck s e i (j e)
+  goes-slot ToSelf clock s e i j = goes-still calm s i
 
 -- ---- the answering side
 trail-answers : {l : List Event} (s : Site) → Answers (responder s.core) l → Trail Any calm s l calm s
@@ -241,33 +221,18 @@ pub record Carried (c : Call) (w : World) (d : Called) : Type 0 where
   pub trail : Trail Any calm w.site d.events calm d.world.site
   pub few : Spare (filing c) d.events
   pub set : Allowed c w d.world.site.masters
-  pub kept : Inside w.site.core → d.world.started ≡ w.started
-  pub among : member w.started w.site.core.ts.0 ≡ true → member d.world.started w.site.core.ts.0 ≡ true
+  pub started : d.world.started ≡ w.started
   pub memory : Memorable w.memory → Memorable d.world.memory
 
 carried-nothing : (c : Call) (w : World) → Carried c w (nothing w)
 unfolding nothing weight_in
 carried-nothing c w =
-    record {
-      trail = stop;
-      few = light {l = []} (omega arith);
-      set = unchanged c;
-      kept = λ i. refl;
-      among = λ i. i;
-      memory = λ m. m;
-    }
+    record { trail = stop; few = light {l = []} (omega arith); set = unchanged c; started = refl; memory = λ m. m }
 
 carried-called : (c : Call) (d : Done) (w : World) → Goes Any (Allowed c w) calm w.site calm d → Carried c w (called d w)
 unfolding called with_site
 carried-called c d w g =
-    record {
-      trail = g.trail;
-      few = light g.few;
-      set = g.set;
-      kept = λ i. refl;
-      among = λ i. i;
-      memory = λ m. m;
-    }
+    record { trail = g.trail; few = light g.few; set = g.set; started = refl; memory = λ m. m }
 
 carried-replying : (c : Call) (a : Answered) (w : World) → Answering (responder w.site.core) a
     → (Memorable w.memory → Minds a) → Carried c w (replying a w)
@@ -277,133 +242,30 @@ carried-replying c a w t m =
       trail = trail-answers w.site t.told;
       few = light (few-answers t.told);
       set = unchanged c;
-      kept = λ i. refl;
-      among = λ i. i;
+      started = refl;
       memory = λ z. (m z).memory;
     }
 
 -- after the pass's check is let go: what may be made of the set then, might have been before
 allowed-rested : {c : Call} {x : Core} {started l r : List ℕ} → Changed (with_doing (resting x.doing) x) started l c r
     → Changed x started l c r
-unfolding with_doing resting checking away
+unfolding with_doing resting checking
 allowed-rested (unchanged c) = unchanged c
 allowed-rested (entered clock room high low octets out d a p e f g h i) =
     entered clock room high low octets out d a p e f g h i
 allowed-rested (removed clock out e h) = absurd (true≢false (sym (ap checking e)))
-allowed-rested (restored e) = restored e
-allowed-rested (learnt clock room high low octets out g d a p e f h i) = absurd (true≢false (sym (ap away e)))
-allowed-rested (learnt-entered clock room high low octets out d a p e f g h i j k) =
-    absurd (true≢false (sym (ap away e)))
-allowed-rested (claimed clock out g e) = absurd (true≢false (sym (ap away e)))
-allowed-rested (halted clock room high low octets out g f p e h i j) = absurd (true≢false (sym (ap away e)))
-allowed-rested (afresh e) = afresh e
+allowed-rested restored = restored
 
 carried-rested : {c : Call} {d : Called} (w : World) → flight w.site.core.doing.phase ≡ false
     → Carried c (with_site (rest w.site) w) d → Carried c w d
-unfolding rest with_core with_site with_doing resting away
+unfolding rest with_core with_site
 carried-rested w f c =
     record {
       trail = move (Acts.lets_go _ (λ z. f)) (move (Acts.rests _) c.trail);
       few = c.few;
       set = allowed-rested c.set;
-      kept = λ i. c.kept (record { typed = i.typed; ring = refl });
-      among = c.among;
+      started = c.started;
       memory = c.memory;
-    }
-
--- ---- all requests are confirmed DS, and the station begins afresh
-drain-none : (n m : ℕ) (l : Left Queue) → n ≡ l.answer.unconfirmed → (drain n m l).answer.unconfirmed ≡ 0
-unfolding drain confirm
-drain-none zero m l e = sym e
-drain-none (suc n) m l e = drain-none n 0 _ (fewer n l.answer e)
-
-module _ (k : Type 0) where
-  halts : (b : Bool) (s t : Site) (l : List Event) → flight s.core.doing.phase ≡ b
-      → Trail k (clearing (count_of High s.core) (count_of Low s.core)) s l calm t
-      → Trail k halting s (broken s.core.doing.phase ++ l) calm t
-  halts true s t l e i = rw (broken-by s.core.doing.phase ∙ pick_true _ _ e) (act (Acts.breaks s e) i)
-  halts false s t l e i = rw (broken-by s.core.doing.phase ∙ pick-false _ _ e) (move (Acts.spares s e) i)
-
-  clears-high : (n a b : ℕ) (s t : Site) (l : List Event) → n ≡ s.core.high.unconfirmed
-      → ((c : ℕ)
-      → Trail k (clearing c b)
-      (filled High (drain n a (left s.core.high s.high.row s.high.area)) s) l calm t)
-      → Trail k (clearing a b) s (dismissed High n a s.core.high ++ l) calm t
-  unfolding dismissed drain confirm with_rows with_core with_queue queue_of rows_of
-  clears-high zero a b s t l e i = i a
-  clears-high (suc n) a b s t l e i =
-      act (Acts.clears-high a b s (omega arith)) (clears-high n 0 b _ t l (fewer n s.core.high e) i)
-
-  clears-low : (n a b : ℕ) (s t : Site) → n ≡ s.core.low.unconfirmed
-      → ((c : ℕ)
-      → Trail k (clearing a c) (filled Low (drain n b (left s.core.low s.low.row s.low.area)) s)
-      [] calm t)
-      → Trail k (clearing a b) s (dismissed Low n b s.core.low) calm t
-  unfolding dismissed drain confirm with_rows with_core with_queue queue_of rows_of
-  clears-low zero a b s t e i = i b
-  clears-low (suc n) a b s t e i =
-      act (Acts.clears-low a b s (omega arith)) (clears-low n a 0 _ t (fewer n s.core.low e) i)
-
-  pub trail-cleared : (f : Fresh) (w : World) → (k → quiet f.phase ≡ true) → (k → Heir w.site.core f)
-      → (k → member f.masters w.site.core.ts.0 ≡ true)
-      → Trail k calm w.site (cleared f w).events calm (cleared f w).world.site
-  unfolding cleared fresh_world dismissal drained queue_of rows_of with_rows with_core with_queue
-  trail-cleared f w q n e =
-      act (Acts.restarts w.site)
-      (halts _ w.site _ _ refl
-      (clears-high _ _ _ w.site _ _ refl
-      (λ a. clears-low _ _ _ (filled High (drained High w.site) w.site) _ refl
-      (λ b. move
-      (Acts.renews a b f (filled Low (drained Low w.site) (filled High (drained High w.site) w.site)) q
-      (λ z. record {
-        within = λ i. (n z).within (record { typed = i.typed; ring = i.ring });
-        learns = (n z).learns;
-      }) e (drain-none _ _ _ refl) (drain-none _ _ _ refl)) stop))))
-
-cleared-memory : (f : Fresh) (w : World) → Memorable (cleared f w).world.memory
-unfolding cleared fresh_world forgotten
-cleared-memory f w = record { source = omega arith; reply = omega arith }
-
-cleared-sets : (f : Fresh) (w : World)
-    → ((cleared f w).world.site.masters ≡ f.masters) × ((cleared f w).world.started ≡ f.masters)
-unfolding cleared fresh_world
-cleared-sets f w = (refl, refl)
-
--- a reset sends and files nothing
-unsent-broken : (x : Phase) → weight_in (broken x) ≡ 0
-unfolding weight_in weight
-unsent-broken x =
-    rw (broken-by x) (by (λ (l : List Event). weight_in l ≡ 0) _ _ _ (λ e. refl) (λ e. refl))
-
-unsent-dismissed : (y : Priority) (n count : ℕ) (q : Queue) → weight_in (dismissed y n count q) ≡ 0
-unfolding dismissed weight_in weight
-unsent-dismissed y zero count q = refl
-unsent-dismissed y (suc n) count q = omega (arith, unsent-dismissed y n 0 (Q.confirmed q))
-
-few-cleared : (f : Fresh) (w : World) → weight_in (cleared f w).events ≤ 1
-unfolding cleared dismissal weight_in weight
-few-cleared f w =
-    let c = w.site.core in
-    omega (
-      arith,
-      weights-append (broken c.doing.phase) (dismissal High c ++ dismissal Low c),
-      weights-append (dismissal High c) (dismissal Low c),
-      unsent-broken c.doing.phase,
-      unsent-dismissed High (queue_of High c).unconfirmed (count_of High c) (queue_of High c),
-      unsent-dismissed Low (queue_of Low c).unconfirmed (count_of Low c) (queue_of Low c),
-    )
-
-carried-cleared : {c : Call} (f : Fresh) (w : World) → quiet f.phase ≡ true
-    → Heir w.site.core f → (Inside w.site.core → f.masters ≡ w.started)
-    → member f.masters w.site.core.ts.0 ≡ true → Allowed c w f.masters → Carried c w (cleared f w)
-carried-cleared f w q n b e i =
-    record {
-      trail = trail-cleared Any f w (λ z. q) (λ z. n) (λ z. e);
-      few = light (few-cleared f w);
-      set = rw (cleared-sets f w).0 i;
-      kept = λ z. (cleared-sets f w).1 ∙ b z;
-      among = λ z. rw (cleared-sets f w).1 e;
-      memory = λ m. cleared-memory f w;
     }
 
 -- ---- frame
@@ -439,142 +301,16 @@ module _ (clock : ℕ) (room : Bool) (high low octets : List ℕ) (out : ℕ) (u
   unfolding with_site
   carried-check w f = carried-rested w f (carried-read _ _ refl (rest-unflown w.site))
 
-  -- ---- outside the ring; n is that the state is in order
-  module _ (g : Stage) (w : World) (e : w.site.core.doing.phase ≡ Outside g)
-      (n : lawless w.site.core w.site.masters w.started w.memory.kept ≡ false) where
-    outer : {A : Type 0} → Inside w.site.core → A
-    unfolding away
-    outer i = absurd (true≢false (ap away (sym e) ∙ i.ring))
-
-    among-ts : member w.started w.site.core.ts.0 ≡ true
-    among-ts = lawful-kept w.site.core w.site.masters w.started _ n
-
-    carried-own : (f : Fields) (p : Part) → read octets ≡ Read f p → sender_of f ≡ w.site.core.ts.0
-        → Carried handed-over w (own_heard w)
-    unfolding own_heard own_once nothing with_site with_core with_learner stopped deaf quiet weight_in
-    carried-own f p h i =
-        by (Carried handed-over w) _ _ _
-        (λ o. carried-cleared _ w refl (record { within = outer; learns = λ z. refl }) outer
-        (member-alone _ (lawful w.site.core w.site.masters w.started _ n).ts)
-        (halted clock room high low octets out g f p e h i o))
-        (λ o. record {
-          trail = move (Acts.learns _ _ refl) stop;
-          few = light {l = []} (omega arith);
-          set = unchanged _;
-          kept = λ z. refl;
-          among = λ z. z;
-          memory = λ m. m;
-        })
-
-    -- a token of another: what becomes of the set, and with it of the rest
-    module _ (d a : Address) (p : Part) (h : read octets ≡ Read (Token d a) p) (o : a.0 ≡ w.site.core.ts.0 → ⊥) where
-      carried-taught : {v : World} → Taught d.0 a.0 w v → Carried handed-over w (nothing v)
-      unfolding nothing learns learned adopted readied with_started with_masters with_site with_core with_learner with_doing with_ps
-          weight_in learning_of list_of away
-      carried-taught (not_yet c) =
-          record {
-            trail = move (Acts.learns _ _ refl) stop;
-            few = light {l = []} (omega arith);
-            set = unchanged _;
-            kept = outer;
-            among = row_keeps _ _ _ _ _ o;
-            memory = λ m. m;
-          }
-      carried-taught (taken-up c) =
-          record {
-            trail =
-                move (Acts.learns _ _ refl)
-                (move (Acts.adopts _ _ (ap away e) (λ z. takes-keeps _ _ (row_keeps _ _ _ _ _ o among-ts))) stop);
-            few = light {l = []} (omega arith);
-            set = learnt clock room high low octets out g d a p e h o c;
-            kept = outer;
-            among = row_keeps _ _ _ _ _ o;
-            memory = λ m. m;
-          }
-
-      carried-entering : {v : World} → g ≡ Ready → Taught d.0 a.0 w v
-          → Carried handed-over w (called (token clock d.0 a.0 v.site) v)
-      unfolding called learns learned adopted readied admit with_started with_masters with_site with_core with_learner
-          with_doing with_ps learning_of list_of away flight
-      carried-entering r (not_yet c) =
-          let t =
-          goes-token Any (Allowed handed-over w) clock _ _ (learns d.0 a.0 w).site
-          (λ z. read-token octets d a p h) (λ z. ap flight e) (unchanged _)
-          (entered clock room high low octets out d a p h) in
-          record {
-            trail = move (Acts.learns _ _ refl) t.trail;
-            few = light t.few;
-            set = t.set;
-            kept = outer;
-            among = row_keeps _ _ _ _ _ o;
-            memory = λ m. m;
-          }
-      carried-entering r (taken-up c) =
-          let t =
-          goes-token Any (Allowed handed-over w) clock _ _
-          (adopted (takes (learns d.0 a.0 w).started) (learns d.0 a.0 w).site)
-          (λ z. read-token octets d a p h) (λ z. refl) (learnt clock room high low octets out g d a p e h o c)
-          (λ x y z q. learnt-entered clock room high low octets out d a p (e ∙ ap Outside r) h x o c z q) in
-          record {
-            trail =
-                move (Acts.learns _ _ refl)
-                (move (Acts.adopts _ _ (ap away e) (λ z. takes-keeps _ _ (row_keeps _ _ _ _ _ o among-ts)))
-                t.trail);
-            few = light t.few;
-            set = t.set;
-            kept = outer;
-            among = row_keeps _ _ _ _ _ o;
-            memory = λ m. m;
-          }
-
-  carried-token : (g : Stage) (w : World) → w.site.core.doing.phase ≡ Outside g
-      → lawless w.site.core w.site.masters w.started w.memory.kept ≡ false
-      → (d a : Address) (p : Part) → read octets ≡ Read (Token d a) p → (a.0 ≡ w.site.core.ts.0 → ⊥)
-      → Carried handed-over w (token_heard g clock d.0 a.0 w)
-  unfolding token_heard entering
-  carried-token Listening w e n d a p h o = carried-taught Listening w e n d a p h o (taught_by d.0 a.0 w)
-  carried-token Ready w e n d a p h o = carried-entering Ready w e n d a p h o refl (taught_by d.0 a.0 w)
-  carried-token Stopped w e n d a p h o = carried-nothing _ w
-
-  carried-others : (g : Stage) (f : Fields) (p : Part) (w : World) → read octets ≡ Read f p
-      → w.site.core.doing.phase ≡ Outside g
-      → lawless w.site.core w.site.masters w.started w.memory.kept ≡ false
-      → (sender_of f ≡ w.site.core.ts.0 → ⊥) → Carried handed-over w (others_heard g clock f w)
-  unfolding others_heard sender_of
-  carried-others g (Token d a) p w h e n o = carried-token g w e n d a p h o
-  carried-others g Short p w h e n o = carried-nothing _ w
-  carried-others g (Frame x) p w h e n o =
-      let t = answers-only (responder w.site.core) x in
-      record {
-        trail = trail-answers w.site t;
-        few = light (few-answers t);
-        set = unchanged _;
-        kept = λ i. refl;
-        among = λ i. i;
-        memory = λ m. m;
-      }
-
-  carried-outside : (g : Stage) (r : Reading) (w : World) → read octets ≡ r → w.site.core.doing.phase ≡ Outside g
-      → lawless w.site.core w.site.masters w.started w.memory.kept ≡ false
-      → Carried handed-over w (outside g clock r w)
-  unfolding outside good_heard
-  carried-outside g (Unread n) w h e l = carried-nothing _ w
-  carried-outside g (Read f p) w h e l =
-      by (Carried handed-over w) _ _ _ (λ i. carried-own g w e l f p h (true_same _ _ i))
-      (λ i. carried-others g f p w h e l (false_same _ _ i))
-
   pub carried-heard : (x : Phase) (w : World) → w.site.core.doing.phase ≡ x
-      → lawless w.site.core w.site.masters w.started w.memory.kept ≡ false
       → Carried handed-over w (heard x clock room high low octets w)
   unfolding heard flight
-  carried-heard Idle w e n = carried-read _ w refl (ap flight e)
-  carried-heard Awaited w e n =
+  carried-heard Idle w e = carried-read _ w refl (ap flight e)
+  carried-heard Awaited w e =
       carried-called _ _ w
       (goes-awaited Any (Allowed handed-over w) clock octets _ w.site (λ z. refl) (λ z. e) (unchanged _))
-  carried-heard Sdn w e n = carried-nothing _ w
-  carried-heard Check w e n = carried-check w (ap flight e)
-  carried-heard ToSelf w e n = carried-nothing _ w
-  carried-heard (Outside g) w e n = carried-outside g _ w refl e n
+  carried-heard Sdn w e = carried-nothing _ w
+  carried-heard Check w e = carried-check w (ap flight e)
+  carried-heard ToSelf w e = carried-nothing _ w
 
 pub carried-sent : (clock out : ℕ) (w : World)
     → Carried (sent clock out) w (called (sent_in w.site.core.doing.phase clock w.site) w)
@@ -583,30 +319,97 @@ carried-sent clock out w =
 
 pub carried-slot : (clock out : ℕ) (w : World)
     → Carried (slot clock out) w (called (slot_in w.site.core.doing.phase clock w.site) w)
-unfolding without ns lone with_masters with_core
+unfolding without ns with_masters with_core
 carried-slot clock out w =
     carried-called _ _ w
     (goes-slot Any (Allowed (slot clock out) w) _ clock w.site (λ z. refl) (unchanged _)
-    (λ e. removed clock out (e any)) (λ g e. claimed clock out g e))
+    (λ e. removed clock out (e any)))
 
 -- ---- reset
+drain-none : (n m : ℕ) (l : Left Queue) → n ≡ l.answer.unconfirmed → (drain n m l).answer.unconfirmed ≡ 0
+unfolding drain confirm
+drain-none zero m l e = sym e
+drain-none (suc n) m l e = drain-none n 0 _ (fewer n l.answer e)
+
+module _ (k : Type 0) where
+  halts : (b : Bool) (s t : Site) (l : List Event) → flight s.core.doing.phase ≡ b
+      → Trail k (clearing (count_of High s.core) (count_of Low s.core)) s l calm t
+      → Trail k halting s (broken s.core.doing.phase ++ l) calm t
+  halts true s t l e i = rw (broken-by s.core.doing.phase ∙ pick_true _ _ e) (act (Acts.breaks s e) i)
+  halts false s t l e i = rw (broken-by s.core.doing.phase ∙ pick-false _ _ e) (move (Acts.spares s e) i)
+
+  clears-high : (n a b : ℕ) (s t : Site) (l : List Event) → n ≡ s.core.high.unconfirmed
+      → ((c : ℕ)
+      → Trail k (clearing c b)
+      (filled High (drain n a (left s.core.high s.high.row s.high.area)) s) l calm t)
+      → Trail k (clearing a b) s (dismissed High n a s.core.high ++ l) calm t
+  unfolding dismissed drain confirm with_rows with_core with_queue queue_of rows_of
+  clears-high zero a b s t l e i = i a
+  clears-high (suc n) a b s t l e i =
+      act (Acts.clears-high a b s (omega arith)) (clears-high n 0 b _ t l (fewer n s.core.high e) i)
+
+  clears-low : (n a b : ℕ) (s t : Site) → n ≡ s.core.low.unconfirmed
+      → ((c : ℕ)
+      → Trail k (clearing a c) (filled Low (drain n b (left s.core.low s.low.row s.low.area)) s)
+      [] calm t)
+      → Trail k (clearing a b) s (dismissed Low n b s.core.low) calm t
+  unfolding dismissed drain confirm with_rows with_core with_queue queue_of rows_of
+  clears-low zero a b s t e i = i b
+  clears-low (suc n) a b s t e i =
+      act (Acts.clears-low a b s (omega arith)) (clears-low n a 0 _ t (fewer n s.core.low e) i)
+
+  pub trail-resetting : (w : World) → (k → member w.started w.site.core.ts.0 ≡ true)
+      → Trail k calm w.site (resetting w).events calm (resetting w).world.site
+  unfolding resetting fresh_world dismissal drained queue_of rows_of with_rows with_core with_queue
+  trail-resetting w e =
+      act (Acts.restarts w.site)
+      (halts _ w.site _ _ refl
+      (clears-high _ _ _ w.site _ _ refl
+      (λ a. clears-low _ _ _ (filled High (drained High w.site) w.site) _ refl
+      (λ b. move (Acts.renews a b w.started _ e (drain-none _ _ _ refl) (drain-none _ _ _ refl)) stop))))
+
+reset-rest : (w : World) → ((resetting w).world.started ≡ w.started) × Memorable (resetting w).world.memory
+unfolding resetting fresh_world forgotten
+reset-rest w = (refl, record { source = omega arith; reply = omega arith })
+
+reset-set : (w : World) → (resetting w).world.site.masters ≡ w.started
+unfolding resetting fresh_world
+reset-set w = refl
+
+-- a reset sends and files nothing
+unsent-broken : (x : Phase) → weight_in (broken x) ≡ 0
+unfolding weight_in weight
+unsent-broken x =
+    rw (broken-by x) (by (λ (l : List Event). weight_in l ≡ 0) _ _ _ (λ e. refl) (λ e. refl))
+
+unsent-dismissed : (y : Priority) (n count : ℕ) (q : Queue) → weight_in (dismissed y n count q) ≡ 0
+unfolding dismissed weight_in weight
+unsent-dismissed y zero count q = refl
+unsent-dismissed y (suc n) count q = omega (arith, unsent-dismissed y n 0 (Q.confirmed q))
+
+few-resetting : (w : World) → weight_in (resetting w).events ≤ 1
+unfolding resetting dismissal weight_in weight
+few-resetting w =
+    let c = w.site.core in
+    omega (
+      arith,
+      weights-append (broken c.doing.phase) (dismissal High c ++ dismissal Low c),
+      weights-append (dismissal High c) (dismissal Low c),
+      unsent-broken c.doing.phase,
+      unsent-dismissed High (queue_of High c).unconfirmed (count_of High c) (queue_of High c),
+      unsent-dismissed Low (queue_of Low c).unconfirmed (count_of Low c) (queue_of Low c),
+    )
+
 pub carried-resetting : (w : World)
     → lawless w.site.core w.site.masters w.started w.memory.kept ≡ false → Carried reset w (resetting w)
-unfolding resetting given_to begins_with deaf quiet away
 carried-resetting w e =
-    let c = w.site.core in
-    by (λ (g : Given). Carried reset w (cleared (begins_with g c.ts.0) w)) _ _ _
-    (λ h. carried-cleared _ w refl
-    (record { within = λ z. absurd (true≢false (sym h ∙ z.typed)); learns = λ z. refl })
-    (λ z. absurd (true≢false (sym h ∙ z.typed)))
-    (member-alone _ (lawful c w.site.masters w.started _ e).ts) (afresh h))
-    (λ h. carried-cleared _ w refl
-    (record {
-      within = λ z. record { typed = refl; ring = refl };
-      learns = λ z. absurd (true≢false (sym z ∙ h));
-    })
-    (λ z. refl)
-    (lawful-kept c w.site.masters w.started _ e) (restored h))
+    record {
+      trail = trail-resetting Any w (λ z. lawful-kept w.site.core w.site.masters w.started _ e);
+      few = light (few-resetting w);
+      set = rw (reset-set w) restored;
+      started = (reset-rest w).0;
+      memory = λ m. (reset-rest w).1;
+    }
 
 -- ---- any call is refused whole, or carried out
 pub data Course (w : World) : Call → Called → Type 0 where
@@ -622,14 +425,7 @@ filed : {c : Call} {e : Event} {t : Site} (w : World) → Act Any calm w.site e 
 unfolding called done with_site
 filed {c} w a h f i =
     carried {c = c}
-    (record {
-      trail = act a stop;
-      few = rw f (solo _ h);
-      set = rw i (unchanged c);
-      kept = λ z. refl;
-      among = λ z. z;
-      memory = λ m. m;
-    })
+    (record { trail = act a stop; few = rw f (solo _ h); set = rw i (unchanged c); started = refl; memory = λ m. m })
 
 -- of a submit that was given a record, by the one that it took
 course-submit : {y : Priority} {r : Record} {x : List ℕ} {w : World} {d : Called} (given : Record)
@@ -660,8 +456,7 @@ course (submit y r x) w = course-submit r (submission y r x w)
 course (frame clock room high low octets out) w =
     by (Course w (frame clock room high low octets out)) _ _ _
     (λ e. let u = short-updates out (length high) (length low) w (true_same _ _ e) in carried
-    (carried-heard clock room high low octets out u.0 u.1 _ w refl
-    (unrefused-lawful out (length high) (length low) w (true_same _ _ e))))
+    (carried-heard clock room high low octets out u.0 u.1 _ w refl))
     (λ e. declined _)
 course (sent clock out) w =
     by (Course w (sent clock out)) _ _ _ (λ e. carried (carried-sent clock out w)) (λ e. declined _)
@@ -670,8 +465,7 @@ course (slot clock out) w =
 course reset w =
     by (Course w reset) _ _ _ (λ e. declined 21)
     (λ e. by (Course w reset) _ _ _ (λ e. declined 21)
-    (λ e. by (Course w reset) _ _ _ (λ e. declined 31)
-    (λ e. by (Course w reset) _ _ _ (λ e. declined 29) (λ e. carried (carried-resetting w (is_said e))))))
+    (λ e. by (Course w reset) _ _ _ (λ e. declined 29) (λ e. carried (carried-resetting w (is_said e)))))
 course (collect y) w =
     by (Course w (collect y)) _ _ _ (λ e. declined 21)
     (λ e. by (Course w (collect y)) _ _ _ (λ e. declined 29) (λ e. course-collect y w))

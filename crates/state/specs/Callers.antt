@@ -18,7 +18,6 @@ use Rattle.state.specs.World.{Rows, World, Called, rows, world_of, state_of}
 use Rattle.state.specs.Told.{leaves, told, reset_of, started_of, lent, accepted_of, answer_of, handed_back_of}
 use Rattle.state.specs.Told.{submitted_of, telling}
 use Rattle.state.specs.Runs.{Call, submit, frame, sent, slot, reset, collect}
-use Rattle.state.specs.Fresh.{Given}
 use Rattle.state.specs.Calls as Calls
 
 -- ---- calls in a row, of whatever a caller keeps: each is given what the last one left
@@ -81,12 +80,12 @@ pub data Makes (k : Keeps) : Call → List ℕ → Reply → Keeps → Type 0 wh
 pub record Starts (k : Keeps) : Type 0 where
   pub settings : Settings
   pub ts : ℕ
-  pub given : Given
+  pub masters : List ℕ
   pub points : List ℕ
   pub high : ℕ
   pub low : ℕ
   pub answer : Renewed
-  pub promise : answer ≡ started_of (Calls.start settings ts given points high low)
+  pub promise : answer ≡ started_of (Calls.start settings ts masters points high low)
   pub accepted : answer.refused ≡ 0
   pub state : k.state ≡ answer.state
   pub upper_row : length k.high.row ≡ SIZE * high

@@ -2,7 +2,7 @@
 -- phases in which one is on. Assumes nothing.
 use Rattle.std.specs.Prelude.{Bool, true, false, List, [], ◌∷◌}
 use Rattle.state.specs.declared.Phase.{Phase}
-use Rattle.state.specs.declared.Phase.TheVariants.{Idle, Awaited, Sdn, Check, ToSelf, Outside}
+use Rattle.state.specs.declared.Phase.TheVariants.{Idle, Awaited, Sdn, Check, ToSelf}
 use Rattle.state.specs.World.{Event, accepted, begins, ends, sends, confirmed, collected, indicated, resets}
 use Rattle.state.specs.World.{refused}
 
@@ -23,11 +23,10 @@ hold_last [] b = b
 hold_last (e ∷ l) b = hold_last l (hold_after e b)
 
 -- a hold is on while a reply is awaited and while an SDN goes out; it is over when the token is passed, to another or to
--- itself; outside the ring there is none
+-- itself
 unfoldable pub holding : Phase → Bool
 holding Idle = false
 holding Awaited = true
 holding Sdn = true
 holding Check = false
 holding ToSelf = false
-holding (Outside g) = false

@@ -4,8 +4,6 @@ pub mod Pass
 pub mod Hold
 pub mod Answering
 pub mod Refusals
-pub mod Fresh
-pub mod Listening
 pub mod Calls
 pub mod Told
 pub mod Runs
@@ -19,6 +17,3 @@ pub mod Callers
 pub mod Submitted
 pub mod Retries
 pub mod Masters
-pub mod Learned
-pub mod Silent
-pub mod Joins

@@ -9,10 +9,8 @@ use Rattle.request.specs.Record.{SIZE, SDN, unfit}
 use Rattle.queue.specs.declared.Queue.{Queue}
 use Rattle.queue.specs.Queue.{Ruled, current, misfit, overfull}
 use Rattle.rows.specs.Rows.{Lent, at, sound}
-use Rattle.state.specs.declared.Stage.{Stage}
-use Rattle.state.specs.declared.Stage.TheVariants.{Listening, Ready as ReadyStage, Stopped}
 use Rattle.state.specs.declared.Phase.{Phase}
-use Rattle.state.specs.declared.Phase.TheVariants.{Idle, Awaited, Sdn, Check, ToSelf, Outside}
+use Rattle.state.specs.declared.Phase.TheVariants.{Idle, Awaited, Sdn, Check, ToSelf}
 use Rattle.state.specs.declared.Priority.{Priority}
 use Rattle.state.specs.declared.Priority.TheVariants.{High, Low}
 use Rattle.state.specs.declared.Core.{Core}
@@ -34,20 +32,6 @@ unlent q r = misfit q SIZE (length r.row) (length r.area)
 -- 22: "output under 255 octets, or an update over 244"
 unfoldable pub cramped : ℕ → ℕ → ℕ → Bool
 cramped out high low = pick (less out 255) true (pick (less UPDATE high) true (pick (less UPDATE low) true false))
-
--- 31, of order 2: "on a stopped station"
-unfoldable pub stopped_at : Stage → Bool
-stopped_at Listening = false
-stopped_at ReadyStage = false
-stopped_at Stopped = true
-
-unfoldable pub has_stopped : Phase → Bool
-has_stopped Idle = false
-has_stopped Awaited = false
-has_stopped Sdn = false
-has_stopped Check = false
-has_stopped ToSelf = false
-has_stopped (Outside g) = stopped_at g
 
 -- 29, by the state alone: "settings, TS or a set start would refuse": the set in force and the one kept for reset
 unfoldable pub unstarted : Core → List ℕ → List ℕ → Bool
@@ -72,7 +56,6 @@ odd_in Awaited c masters = same (queue_of c.doing.served c).unconfirmed 0
 odd_in Sdn c masters = same (queue_of c.doing.served c).unconfirmed 0
 odd_in Check c masters = same (next_of masters c.ts.0) c.ts.0
 odd_in ToSelf c masters = pick (same (next_of masters c.ts.0) c.ts.0) false true
-odd_in (Outside g) c masters = false
 
 unfoldable pub lawless : Core → List ℕ → List ℕ → Kept → Bool
 lawless c masters started k =
@@ -92,7 +75,6 @@ unlike_in Awaited service = same service SDN
 unlike_in Sdn service = pick (same service SDN) false true
 unlike_in Check service = false
 unlike_in ToSelf service = false
-unlike_in (Outside g) service = false
 
 unfoldable pub row_by : Priority → List ℕ → List ℕ → List ℕ
 row_by High high low = high
@@ -115,10 +97,9 @@ refusal_in out high_update low_update c masters started k high low =
     pick (said (unlent c.high high)) 21
     (pick (said (unlent c.low low)) 21
     (pick (said (cramped out high_update low_update)) 22
-    (pick (said (has_stopped c.doing.phase)) 31
     (pick (said (lawless c masters started k)) 29
     (pick (said (unsound c high.row low.row)) 29
-    0)))))
+    0))))
 
 unfoldable pub refusal : ℕ → ℕ → ℕ → World → ℕ
 refusal out high low w =

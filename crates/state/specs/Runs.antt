@@ -7,7 +7,6 @@ use Rattle.queue.specs.Queue.{AREA}
 use Rattle.times.specs.declared.Settings.{Settings}
 use Rattle.state.specs.declared.Priority.{Priority}
 use Rattle.state.specs.declared.State.{State}
-use Rattle.state.specs.Fresh.{Given}
 use Rattle.state.specs.Calls.{Station}
 use Rattle.state.specs.World.{Rows, World, Event, Called, accepted, begins, ends, sends, confirmed, collected}
 use Rattle.state.specs.World.{indicated, resets, refused, world_of}
@@ -60,12 +59,12 @@ sendings_in (e ∷ l) = sending_of e + sendings_in l
 pub record Begun (w : World) : Type 0 where
   pub settings : Settings
   pub ts : ℕ
-  pub given : Given
+  pub masters : List ℕ
   pub points : List ℕ
   pub high : ℕ
   pub low : ℕ
   pub state : State
-  pub started : Calls.start settings ts given points high low ≡ Station state
+  pub started : Calls.start settings ts masters points high low ≡ Station state
   pub upper : Rows
   pub lower : Rows
   pub upper_row : length upper.row ≡ SIZE * high

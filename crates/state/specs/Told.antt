@@ -1,6 +1,6 @@
 -- What the caller of frame, sent and slot is told, by the events of its call: the refusal, the octets to send and their
 -- wait, and what is indicated. Assumes nothing.
-use Rattle.std.specs.Prelude.{ℕ, Bool, false, ◌≡◌, List, [], ◌∷◌, length, replicate}
+use Rattle.std.specs.Prelude.{ℕ, false, ◌≡◌, List, [], ◌∷◌, length, replicate}
 use Rattle.laid.specs.Laid.{laid, Lays}
 use Rattle.request.specs.declared.Record.{Record}
 use Rattle.request.specs.Record.{WAITING}
@@ -25,13 +25,8 @@ use Rattle.state.specs.declared.HandedBack.{HandedBack}
 use Rattle.state.specs.declared.Answer.{Answer}
 use Rattle.state.specs.Request.{close}
 use Rattle.state.specs.Pass.{recheck}
-use Rattle.state.specs.Refusals.{has_stopped}
-use Rattle.state.specs.Fresh.{present, begins_with}
-use Rattle.state.specs.declared.Phase.{Phase}
-use Rattle.choice.specs.Choice.{pick, same}
 use Rattle.times.specs.declared.Settings.{Settings}
-use Rattle.state.specs.Calls.{Started, Unstarted, Station}
-use Rattle.state.specs.Fresh.{no_rows, empty_queue, fresh_core, fresh_world}
+use Rattle.state.specs.Calls.{Started, Unstarted, Station, no_rows, empty_queue, fresh_core, fresh_world}
 use Rattle.state.specs.World.{Rows, World, Event, Done, Called, site_of, rows_of, world_of, state_of, state_with}
 use Rattle.state.specs.World.{with_queue, accepted, begins, ends, sends, confirmed, collected, indicated, resets}
 use Rattle.state.specs.World.{refused}
@@ -206,15 +201,11 @@ standing d out =
     d.world.memory.octets d.world.site.high d.world.site.low
     (laid out 0 (telling d.events).octets)
 
--- of frame, sent and slot; of order 2, "and says so": a call that is not refused and leaves the station stopped stopped it
-unfoldable pub stops : ℕ → Phase → Bool
-stops n p = pick (same n 0) (has_stopped p) false
-
+-- of frame, sent and slot
 unfoldable pub answer_of : Called → Answer
 answer_of d =
     record {
       refused = (telling d.events).refused;
-      stopped = stops (telling d.events).refused d.world.site.core.doing.phase;
       state = state_of d.world;
       length = length (telling d.events).octets;
       wait = record { 0 = (telling d.events).wait };
@@ -248,8 +239,7 @@ blank_settings =
 unfoldable pub blank : State
 blank =
     state_of
-    (fresh_world
-    (fresh_core blank_settings 0 (begins_with (present (replicate 127 0)) 0) (empty_queue 0) (empty_queue 0)) (replicate 127 0)
+    (fresh_world (fresh_core blank_settings 0 (replicate 127 0) (empty_queue 0) (empty_queue 0)) (replicate 127 0)
     (replicate 64 0) (replicate 255 0) no_rows no_rows)
 
 unfoldable pub started_of : Started → Renewed

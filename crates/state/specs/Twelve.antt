@@ -27,7 +27,6 @@ use Rattle.request.specs.Record.{SRD, NA, SIZE}
 use Rattle.queue.specs.Queue.{AREA}
 use Rattle.frame.specs.Access.{NONE}
 use Rattle.state.specs.declared.Priority.TheVariants.{High}
-use Rattle.state.specs.Fresh.{present}
 use Rattle.state.specs.Calls.{Started, Unstarted, Station}
 use Rattle.state.specs.World.{Rows, World, Event, aRequest, aToken, aReply, accepted, begins, ends, sends}
 use Rattle.state.specs.World.{confirmed, collected, indicated, world_of}
@@ -178,7 +177,7 @@ ring [] = replicate 127 0
 ring (a ∷ l) = enter (ring l) a
 
 unfoldable pub station : Settings → ℕ → List ℕ → List ℕ → Started
-station s ts l points = start s ts (present (ring l)) points 4 4
+station s ts l points = start s ts (ring l) points 4 4
 
 -- the standard settings, but for a retry limit of so much
 unfoldable pub retrying : ℕ → Settings

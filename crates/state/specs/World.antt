@@ -11,7 +11,6 @@ use Rattle.state.specs.declared.Priority.{Priority}
 use Rattle.state.specs.declared.Priority.TheVariants.{High, Low}
 use Rattle.state.specs.declared.Doing.{Doing}
 use Rattle.state.specs.declared.Hold.{Hold}
-use Rattle.state.specs.declared.Learner.{Learner}
 use Rattle.state.specs.declared.Core.{Core}
 use Rattle.state.specs.declared.Memory.{Memory}
 use Rattle.state.specs.declared.State.{State}
@@ -29,8 +28,7 @@ pub record Site : Type 0 where
   pub high : Rows
   pub low : Rows
 
--- the site, and what stands beside it: the set of masters as started (with the row of a station that learns its ring), the
--- active access points, the answering memory
+-- the site, and what stands beside it: the set of masters as started, the active access points, the answering memory
 pub record World : Type 0 where
   pub site : Site
   pub started : List ℕ
@@ -90,7 +88,6 @@ with_doing d c =
       hold = c.hold;
       high = c.high;
       low = c.low;
-      learner = c.learner;
     }
 
 unfoldable pub with_hold : Hold → Core → Core
@@ -104,7 +101,6 @@ with_hold h c =
       hold = h;
       high = c.high;
       low = c.low;
-      learner = c.learner;
     }
 
 unfoldable pub with_stranger : Address → Core → Core
@@ -118,7 +114,6 @@ with_stranger a c =
       hold = c.hold;
       high = c.high;
       low = c.low;
-      learner = c.learner;
     }
 
 unfoldable pub with_ps : Address → Core → Core
@@ -132,7 +127,6 @@ with_ps a c =
       hold = c.hold;
       high = c.high;
       low = c.low;
-      learner = c.learner;
     }
 
 unfoldable pub with_queue : Priority → Queue → Core → Core
@@ -146,7 +140,6 @@ with_queue High q c =
       hold = c.hold;
       high = q;
       low = c.low;
-      learner = c.learner;
     }
 with_queue Low q c =
     record {
@@ -158,21 +151,6 @@ with_queue Low q c =
       hold = c.hold;
       high = c.high;
       low = q;
-      learner = c.learner;
-    }
-
-unfoldable pub with_learner : Learner → Core → Core
-with_learner x c =
-    record {
-      settings = c.settings;
-      ts = c.ts;
-      ps = c.ps;
-      stranger = c.stranger;
-      doing = c.doing;
-      hold = c.hold;
-      high = c.high;
-      low = c.low;
-      learner = x;
     }
 
 unfoldable pub queue_of : Priority → Core → Queue
@@ -199,21 +177,8 @@ with_rows Low r s = record { core = s.core; masters = s.masters; marks = s.marks
 unfoldable pub with_site : Site → World → World
 with_site s w = record { site = s; started = w.started; points = w.points; memory = w.memory }
 
-unfoldable pub with_started : List ℕ → World → World
-with_started l w = record { site = w.site; started = l; points = w.points; memory = w.memory }
-
 unfoldable pub with_memory : Memory → World → World
 with_memory m w = record { site = w.site; started = w.started; points = w.points; memory = m }
-
--- a call on the site, one that does nothing, and a refused one
-unfoldable pub called : Done → World → Called
-called d w = record { world = with_site d.site w; events = d.events }
-
-unfoldable pub nothing : World → Called
-nothing w = record { world = w; events = [] }
-
-unfoldable pub refuse : ℕ → World → Called
-refuse n w = record { world = w; events = refused n ∷ [] }
 
 -- a site by its parts
 abbrev pub site_of : Core → List ℕ → List ℕ → Rows → Rows → Site

@@ -3,7 +3,6 @@
 use clock::BitTime;
 use control::{Code, Kind};
 use frame::{Address, Head, Part};
-use learn::Learning;
 use queue::Queue;
 use request::Record;
 use ring::Masters;
@@ -15,15 +14,7 @@ pub const UPDATE: usize = 244;
 // The address that stands for no station: no first token is remembered, or no request.
 pub const NOBODY: u8 = 127;
 
-// The stages outside the ring: Listening until the list of masters is complete, Ready until the first hold, Stopped.
-#[derive(Drop)]
-pub enum Stage {
-    Listening,
-    Ready,
-    Stopped,
-}
-
-// The phases: Idle, Reply awaited, SDN going out, Pass checked, Pass to self; and outside the ring.
+// The phases: Idle, Reply awaited, SDN going out, Pass checked, Pass to self.
 #[derive(Drop)]
 pub enum Phase {
     Idle,
@@ -31,7 +22,6 @@ pub enum Phase {
     Sdn,
     Check,
     ToSelf,
-    Outside(Stage),
 }
 
 // The two queues.
@@ -59,15 +49,6 @@ pub struct Hold {
     pub begun: u8,
 }
 
-// How the ring is learned: whether the station was started without a set of masters, whether its own address was heard
-// as a sender since the start or reset, and what is kept of the tokens heard since.
-#[derive(Drop)]
-pub struct Learner {
-    pub listens: bool,
-    pub own: bool,
-    pub learning: Learning,
-}
-
 // What every decision goes by. The stranger is the sender of a first token, 127 for none.
 #[derive(Drop)]
 pub struct Core {
@@ -79,7 +60,6 @@ pub struct Core {
     pub hold: Hold,
     pub high: Queue,
     pub low: Queue,
-    pub learner: Learner,
 }
 
 // The frame count mark of each address: the next bit, or 2 for unknown.
@@ -105,8 +85,7 @@ pub struct Memory {
     pub octets: [u8; 255],
 }
 
-// The state of a station. The octets of `started` that are neither 0 nor 1 are the row of stations named last, of a
-// station that learns its ring.
+// The state of a station.
 #[derive(Drop)]
 pub struct State {
     pub core: Core,
@@ -154,12 +133,11 @@ pub struct Heard {
     pub indication: Indication,
 }
 
-// What frame, sent and slot answer: the refusal or 0, whether the call stopped the station, the state, how many octets
-// to send and after which wait, and what is indicated.
+// What frame, sent and slot answer: the refusal or 0, the state, how many octets to send and after which wait, and what
+// is indicated.
 #[derive(Drop)]
 pub struct Answer {
     pub refused: u8,
-    pub stopped: bool,
     pub state: State,
     pub length: usize,
     pub wait: BitTime,

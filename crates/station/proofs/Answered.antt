@@ -1,18 +1,16 @@
 -- What a call leaves where the arrays of the state are lent, as what it answers with a state by value. Assumes nothing.
 use Prim.Native.Nat.{ℕ}
-use mathlib.Core.Bool.{Bool}
 use mathlib.Core.Path.{◌≡◌, ap}
 use mathlib.Core.List.{List}
 use Rattle.state.specs.declared.Answer.{Answer}
 use Rattle.state.specs.declared.Heard.{Heard}
 use Rattle.state.specs.World.{Rows, Called, state_of}
-use Rattle.state.specs.Told.{Stands, Leaves, stands, standing, heard_of, leaves, told, stops, answer_of}
+use Rattle.state.specs.Told.{Stands, Leaves, stands, standing, heard_of, leaves, told, answer_of}
 
-abbrev pub answering : Bool → Stands → Answer
-answering b x =
+abbrev pub answering : Stands → Answer
+answering x =
     record {
       refused = x.answer.refused;
-      stopped = b;
       state =
           record {
             core = x.answer.core;
@@ -28,12 +26,11 @@ answering b x =
     }
 
 abbrev leaving : Stands → Leaves Answer
-leaving x =
-    leaves (answering (stops x.answer.refused x.answer.core.doing.phase) x) x.high x.low x.out
+leaving x = leaves (answering x) x.high x.low x.out
 
-pub answered : (d : Called) (out : List ℕ) {b : Bool} {h : Heard} {masters started marks points octets : List ℕ}
-    {high low : Rows} {out' : List ℕ} → b ≡ stops h.refused h.core.doing.phase
+pub answered : (d : Called) (out : List ℕ) {h : Heard} {masters started marks points octets : List ℕ}
+    {high low : Rows} {out' : List ℕ}
     → stands h masters started marks points octets high low out' ≡ standing d out
-    → leaves (answering b (stands h masters started marks points octets high low out')) high low out' ≡ told d out
+    → leaving (stands h masters started marks points octets high low out') ≡ told d out
 unfolding standing heard_of told answer_of state_of
-answered d out f e = rw f (ap leaving e)
+answered d out e = ap leaving e

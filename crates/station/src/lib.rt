@@ -1,26 +1,16 @@
-// The station's calls on a state by value: start, listen, submit, collect, frame, sent, slot and reset. Each takes any
+// The station's seven calls on a state by value: start, submit, collect, frame, sent, slot and reset. Each takes any
 // state, rows, buffers and octets, and answers. Here are frame, sent and slot; the others are handed on. Assumes
 // nothing.
 ghost use Rattle.std.specs.Prelude.{◌≡◌, length};
 ghost use Rattle.state.specs.World.{rows, world_of};
 ghost use Rattle.state.specs.Calls.{frame as calls_frame, sent as calls_sent, slot as calls_slot};
-ghost use Rattle.state.specs.Told.{leaves, told, stops as told_stops};
+ghost use Rattle.state.specs.Told.{leaves, told};
 
 use clock::BitTime;
 use ring::Masters;
-use state::{Answer, Core, Marks, Memory, State};
+use state::{Answer, Marks, Memory, State};
 pub use station_queues::{collect, submit};
-pub use station_start::{listen, reset, start};
-
-// Whether the call stopped the station: it is not refused, and leaves it stopped.
-fn stops(refused: u8, c: Core) -> bool
-    ensures { result ≡ told_stops refused c.doing.phase }
-{
-    if refused == 0 {
-        return refusals::stopped(c);
-    }
-    false
-}
+pub use station_start::{reset, start};
 
 // A frame, with the room for an indication and the two updates.
 pub fn frame<'a>(
@@ -48,7 +38,7 @@ pub fn frame<'a>(
     let set = s.masters;
     let mut masters = set.0;
     let first_set = s.started;
-    let mut started = first_set.0;
+    let started = first_set.0;
     let bits = s.marks;
     let mut marks = bits.0;
     let active = s.points;
@@ -65,7 +55,7 @@ pub fn frame<'a>(
         core,
         kept,
         &mut masters,
-        &mut started,
+        &started,
         &mut marks,
         &points,
         &mut remembered,
@@ -81,11 +71,10 @@ pub fn frame<'a>(
     let indication = h.indication;
     Answer {
         refused: h.refused,
-        stopped: stops(h.refused, core),
         state: State {
             core,
             masters: Masters(masters),
-            started: Masters(started),
+            started: first_set,
             marks: Marks(marks),
             points: active,
             memory: Memory {
@@ -136,7 +125,6 @@ pub fn sent(
     let indication = h.indication;
     Answer {
         refused: h.refused,
-        stopped: stops(h.refused, core),
         state: State {
             core,
             masters: Masters(masters),
@@ -198,7 +186,6 @@ pub fn slot(
     let indication = h.indication;
     Answer {
         refused: h.refused,
-        stopped: stops(h.refused, core),
         state: State {
             core,
             masters: Masters(masters),

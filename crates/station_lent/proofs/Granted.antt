@@ -9,8 +9,7 @@ use Rattle.state.specs.declared.Core.{Core}
 use Rattle.state.specs.declared.Kept.{Kept}
 use Rattle.state.specs.World.{Rows, World, Called}
 use Rattle.state.specs.Refusals.{refusal_in, refusal}
-use Rattle.state.specs.Calls.{unless, heard, sent_in, slot_in, frame, sent, slot}
-use Rattle.state.specs.World.{called, refuse}
+use Rattle.state.specs.Calls.{called, refuse, unless, heard, sent_in, slot_in, frame, sent, slot}
 use Rattle.state.specs.Told.{world_in}
 use Rattle.state.proofs.Facts.{sited, output-long, first_short, second_short, reply-short, awaited-queued}
 use Rattle.state.proofs.Facts.{sdn-queued}

@@ -1,3 +1,2 @@
 pub mod Granted
 pub mod One
-pub mod OneOutside

@@ -42,7 +42,7 @@ pub fn frame<'a>(
     c: Core,
     k: Kept,
     masters: &mut [u8; 127],
-    started: &mut [u8; 127],
+    started: &[u8; 127],
     marks: &mut [u8; 127],
     points: &[u8; 64],
     octets: &mut [u8; 255],
@@ -52,13 +52,13 @@ pub fn frame<'a>(
     larea: &mut [u8],
     out: &mut [u8],
 ) -> Heard
-    ensures { stands result masters.new started.new marks.new points.now
+    ensures { stands result masters.new started.now marks.new points.now
         octets.new (rows high.new harea.new)
         (rows low.new larea.new) out.new
         ≡ standing
         (calls_frame clock.0 room first.now second.now s.now
         (length out.old)
-        (world_in c k masters.old started.old marks.old points.now
+        (world_in c k masters.old started.now marks.old points.now
         octets.old (rows high.old harea.old)
         (rows low.old larea.old))) out.old }
 {
@@ -79,8 +79,8 @@ pub fn frame<'a>(
         return refuse(refused, c, k);
     }
     hearing::hear(
-        clock, room, first, second, s, c, k, masters, started, marks, points, octets, high, harea,
-        low, larea, out,
+        clock, room, first, second, s, c, k, masters, marks, points, octets, high, harea, low,
+        larea, out,
     )
 }
 

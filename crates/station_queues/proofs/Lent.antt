@@ -6,7 +6,7 @@ use mathlib.Core.Path.{◌≡◌, refl, sym, ap, ◌∙◌}
 use mathlib.Core.List.{List, [], ◌∷◌}
 use Rattle.choice.specs.Choice.{pick, said, same}
 use Rattle.choice.proofs.Rules.{pick_true, pick-false, same_true, same_false, true_same, false_same, passed}
-use Rattle.choice.proofs.Rules.{said-false, is_said}
+use Rattle.choice.proofs.Rules.{is_said}
 use Rattle.request.specs.declared.Record.{Record}
 use Rattle.request.specs.Record.{limited}
 use Rattle.queue.specs.declared.Queue.{Queue}
@@ -25,38 +25,25 @@ use Rattle.state.specs.declared.State.{State}
 use Rattle.state.specs.declared.Accepted.{Accepted}
 use Rattle.state.specs.World.{Rows, World, Done, rows, accepted, refused, done, queue_of, rows_of, with_queue, with_core}
 use Rattle.state.specs.World.{with_rows, with_site, world_of, state_of, state_with}
-use Rattle.state.specs.Refusals.{unlent, has_stopped, lawless}
-use Rattle.state.specs.Calls.{submitting, collecting}
-use Rattle.state.specs.World.{called, refuse as refuse-call}
-use Rattle.state.specs.Fresh.{no_rows}
+use Rattle.state.specs.Refusals.{unlent, lawless}
+use Rattle.state.specs.Calls.{no_rows, called, submitting, collecting}
 use Rattle.state.specs.Calls as Calls
 use Rattle.state.specs.Told.{telling, adds, untold, lent, accepted_of, submitted_of, handed_back_of, hand_of}
 use Rattle.state.proofs.Facts.{lent_rows, lawful, ruled-of}
 use Rattle.station_queues.specs.Decided.{refusal_of, taking, handing, accepted_for}
 
--- refusals and what follows them, each held against what it stands for
-three-of : {A B : Type 0} (f : A → B) (g : ℕ → A) (u t l : Bool) {x v y : B} (z : A) → f (g 21) ≡ x → f (g 31) ≡ v
-    → f (g 29) ≡ y
-    → f (pick (same (pick u 21 (pick t 31 (pick (said l) 29 0))) 0) z (g (pick u 21 (pick t 31 (pick (said l) 29 0)))))
-    ≡ pick (said u) x (pick (said t) v (pick (said l) y (f z)))
-unfolding pick same said
-three-of f g true t l z e i h = e
-three-of f g false true l z e i h = i
-three-of f g false false true z e i h = h
-three-of f g false false false z e i h = refl
-
--- and of a call that a stopped station does not refuse
-two-of : {A B : Type 0} (f : A → B) (g : ℕ → A) (u l : Bool) {x y : B} (z : A) → f (g 21) ≡ x → f (g 29) ≡ y
-    → f
-    (pick (same (pick u 21 (pick false 31 (pick (said l) 29 0))) 0) z
-    (g (pick u 21 (pick false 31 (pick (said l) 29 0)))))
-    ≡ pick (said u) x (pick (said l) y (f z))
-two-of f g u l z e h = three-of f g u false l z e refl h ∙ ap (pick (said u) _) (pick-false _ _ (said-false refl refl))
+-- two refusals and what follows them, each held against what it stands for
+both_of : {A B : Type 0} (f : A → B) (g : ℕ → A) (u l : Bool) {x y : B} (z : A) → f (g 21) ≡ x → f (g 29) ≡ y
+    → f (pick (same (pick u 21 (pick l 29 0)) 0) z (g (pick u 21 (pick l 29 0)))) ≡ pick u x (pick l y (f z))
+unfolding pick same
+both_of f g true l z e h = e
+both_of f g false true z e h = h
+both_of f g false false z e h = refl
 
 -- ---- submit
 refusing : (p : Priority) (k : ℕ) (q : Queue) (n : Record) (row area : List ℕ) (w : World) → same k 0 ≡ false
-    → called (submitting p (left (refuse k q n) row area) w.site) w ≡ refuse-call k w
-unfolding called submitting done with_site refuse refuse-call
+    → called (submitting p (left (refuse k q n) row area) w.site) w ≡ Calls.refuse k w
+unfolding called submitting done with_site refuse Calls.refuse
 refusing p k q n row area w h = ap (λ (d : Done). called d w) (pick-false _ _ h)
 
 -- the call, by what it decided
@@ -66,16 +53,14 @@ module _ (s : State) (n : Record) (x : List ℕ) (r : Rows) where
       (lent p s r).site) (lent p s r) ≡ Calls.submit p n x (lent p s r)
   unfolding Calls.submit taking refusal_of lent world_of rows_of queue_of
   submit-by High =
-      three-of (λ (t : Left Taken). called (submitting High t (world_of s r no_rows).site) (world_of s r no_rows))
-      (λ (k : ℕ). left (refuse k s.core.high n) r.row r.area) _ _ _ _
+      both_of (λ (t : Left Taken). called (submitting High t (world_of s r no_rows).site) (world_of s r no_rows))
+      (λ (k : ℕ). left (refuse k s.core.high n) r.row r.area) _ _ _
       (refusing High 21 _ n _ _ _ (same_false (omega arith)))
-      (refusing High 31 _ n _ _ _ (same_false (omega arith)))
       (refusing High 29 _ n _ _ _ (same_false (omega arith)))
   submit-by Low =
-      three-of (λ (t : Left Taken). called (submitting Low t (world_of s no_rows r).site) (world_of s no_rows r))
-      (λ (k : ℕ). left (refuse k s.core.low n) r.row r.area) _ _ _ _
-      (refusing Low 21 _ n _ _ _ (same_false (omega arith))) (refusing Low 31 _ n _ _ _ (same_false (omega arith)))
-      (refusing Low 29 _ n _ _ _ (same_false (omega arith)))
+      both_of (λ (t : Left Taken). called (submitting Low t (world_of s no_rows r).site) (world_of s no_rows r))
+      (λ (k : ℕ). left (refuse k s.core.low n) r.row r.area) _ _ _
+      (refusing Low 21 _ n _ _ _ (same_false (omega arith))) (refusing Low 29 _ n _ _ _ (same_false (omega arith)))
 
 -- a refused one leaves the state and the row
 left-refused : (p : Priority) (k : ℕ) (s : State) (r : Rows)
@@ -106,37 +91,35 @@ module _ (p : Priority) (c : Core) (masters started : List ℕ) (k : Kept) (n : 
   abbrev own : Record
   own = limited c.settings.retries.0 n
 
-  taking-kept-by : (u t l : Bool) → unlent (queue_of p c) r ≡ u → has_stopped c.doing.phase ≡ t
-      → lawless c masters started k ≡ l
+  taking-kept-by : (u l : Bool) → unlent (queue_of p c) r ≡ u → lawless c masters started k ≡ l
       → ((taking p c masters started k n x r).answer.refused ≡ 0 → ⊥)
       → ((taking p c masters started k n x r).row ≡ r.row) × ((taking p c masters started k n x r).area ≡ r.area)
   unfolding taking refusal_of pick same said
-  taking-kept-by true t l e i f h = rw e (refl, refl)
-  taking-kept-by false true l e i f h = rw (e, i) (refl, refl)
-  taking-kept-by false false true e i f h = rw (e, i, f) (refl, refl)
-  taking-kept-by false false false e i f h =
-      rw (e, i, f) (submitted-kept _ _ own x _ _ (outcome _ _ own x _ _) (rw (e, i, f) at h))
+  taking-kept-by true l e f h = rw e (refl, refl)
+  taking-kept-by false true e f h = rw (e, f) (refl, refl)
+  taking-kept-by false false e f h =
+      rw (e, f) (submitted-kept _ _ own x _ _ (outcome _ _ own x _ _) (rw (e, f) at h))
 
   taking-kept : ((taking p c masters started k n x r).answer.refused ≡ 0 → ⊥)
       → ((taking p c masters started k n x r).row ≡ r.row) × ((taking p c masters started k n x r).area ≡ r.area)
-  taking-kept h = taking-kept-by _ _ _ refl refl refl h
+  taking-kept h = taking-kept-by _ _ refl refl h
 
--- where nothing is refused, the queue's counts are in order, and the row and the data area are its own
-pub unrefused-lent : (p : Priority) (c : Core) (masters started : List ℕ) (k : Kept) (r : Rows) (t : Bool)
-    → refusal_of (unlent (queue_of p c) r) t c masters started k ≡ 0 → Ruled (queue_of p c) × Lent (queue_of p c) r.row
+-- where neither refuses, the queue's counts are in order, and the row and the data area are its own
+pub unrefused-lent : (p : Priority) (c : Core) (masters started : List ℕ) (k : Kept) (r : Rows)
+    → refusal_of (unlent (queue_of p c) r) c masters started k ≡ 0 → Ruled (queue_of p c) × Lent (queue_of p c) r.row
     r.area
 unfolding refusal_of
-unrefused-lent p c masters started k r t e =
+unrefused-lent p c masters started k r e =
     let u = passed _ 21 _ (omega arith) e in
-    let l = passed _ 29 _ (omega arith) (passed t 31 _ (omega arith) u.1).1 in
-    (ruled-of c p (lawful c masters started k (is_said l.0)), lent_rows (queue_of p c) r u.0)
+    let l = passed _ 29 _ (omega arith) u.1 in
+    (ruled-of c p (lawful c masters started k (is_said l.0)), lent_rows (queue_of p c) r (is_said u.0))
 
 -- and the station's retry limit is in its rule
-pub unrefused-limit : (c : Core) (masters started : List ℕ) (k : Kept) (u t : Bool)
-    → refusal_of u t c masters started k ≡ 0 → c.settings.retries.0 ≤ 15
+pub unrefused-limit : (c : Core) (masters started : List ℕ) (k : Kept) (u : Bool)
+    → refusal_of u c masters started k ≡ 0 → c.settings.retries.0 ≤ 15
 unfolding refusal_of
-unrefused-limit c masters started k u t e =
-    let l = passed _ 29 _ (omega arith) (passed t 31 _ (omega arith) (passed u 21 _ (omega arith) e).1).1 in
+unrefused-limit c masters started k u e =
+    let l = passed _ 29 _ (omega arith) (passed _ 21 _ (omega arith) e).1 in
     (lawful c masters started k (is_said l.0)).retries
 
 -- the call, refused and carried out, by what the code finds
@@ -182,8 +165,8 @@ module _ (s : State) (p : Priority) (n : Record) (x row area : List ℕ) {t : Ta
   submit-by-decision = submit-either _ refl
 
 -- ---- collect
-uncollecting : (p : Priority) (k : ℕ) (w : World) → called (collecting p (Refused k) w.site) w ≡ refuse-call k w
-unfolding called collecting done with_site refuse-call
+uncollecting : (p : Priority) (k : ℕ) (w : World) → called (collecting p (Refused k) w.site) w ≡ Calls.refuse k w
+unfolding called collecting done with_site Calls.refuse
 uncollecting p k w = refl
 
 module _ (s : State) (r : Rows) where
@@ -192,10 +175,10 @@ module _ (s : State) (r : Rows) where
       (lent p s r).site) (lent p s r) ≡ Calls.collect p (lent p s r)
   unfolding Calls.collect handing refusal_of lent world_of rows_of queue_of
   collect-by High =
-      two-of (λ (c : Collected). called (collecting High c (world_of s r no_rows).site)
+      both_of (λ (c : Collected). called (collecting High c (world_of s r no_rows).site)
       (world_of s r no_rows)) Refused _ _ _ (uncollecting High 21 _) (uncollecting High 29 _)
   collect-by Low =
-      two-of (λ (c : Collected). called (collecting Low c (world_of s no_rows r).site)
+      both_of (λ (c : Collected). called (collecting Low c (world_of s no_rows r).site)
       (world_of s no_rows r)) Refused _ _ _ (uncollecting Low 21 _) (uncollecting Low 29 _)
 
 handed-by : (p : Priority) (c : Collected) (s : State) (r : Rows)

@@ -1,6 +1,6 @@
 -- What submit and collect decide by the parts of a state and the lent row, before a state is made of it. Assumes
 -- nothing.
-use Rattle.std.specs.Prelude.{ℕ, Bool, false, List}
+use Rattle.std.specs.Prelude.{ℕ, Bool, List}
 use Rattle.choice.specs.Choice.{pick, same, said}
 use Rattle.request.specs.declared.Record.{Record}
 use Rattle.request.specs.Record.{limited}
@@ -15,29 +15,27 @@ use Rattle.state.specs.declared.Kept.{Kept}
 use Rattle.state.specs.declared.State.{State}
 use Rattle.state.specs.declared.Accepted.{Accepted}
 use Rattle.state.specs.World.{Rows, queue_of, with_queue, state_with}
-use Rattle.state.specs.Refusals.{unlent, has_stopped, lawless}
+use Rattle.state.specs.Refusals.{unlent, lawless}
 
--- 21 for the row, when it is not the queue's, 31 for a station that has stopped, 29 for the state; 0 is none
-unfoldable pub refusal_of : Bool → Bool → Core → List ℕ → List ℕ → Kept → ℕ
-refusal_of unfit stopped c masters started k =
-    pick unfit 21
-    (pick stopped 31
+-- 21 for the row, when it is not the queue's, 29 for the state; 0 is none
+unfoldable pub refusal_of : Bool → Core → List ℕ → List ℕ → Kept → ℕ
+refusal_of unfit c masters started k =
+    pick (said unfit) 21
     (pick (said (lawless c masters started k)) 29
-    0))
+    0)
 
--- what the row's own submit says of the record with the limit that it goes by, unless that refuses
+-- what the row's own submit says of the record with the limit that it goes by, unless that refuses; likewise of collect
 unfoldable pub taking : Priority → Core → List ℕ → List ℕ → Kept → Record → List ℕ → Rows → Left Taken
 taking p c masters started k r x w =
-    let n : ℕ = refusal_of (unlent (queue_of p c) w) (has_stopped c.doing.phase) c masters started k in
-    pick (same n 0)
+    pick (same (refusal_of (unlent (queue_of p c) w) c masters started k) 0)
     (submitted c.ts.0 (queue_of p c) (limited c.settings.retries.0 r) x w.row w.area)
-    (left (refuse n (queue_of p c) r) w.row w.area)
+    (left (refuse (refusal_of (unlent (queue_of p c) w) c masters started k) (queue_of p c) r) w.row w.area)
 
--- likewise of collect, which a stopped station does not refuse
 unfoldable pub handing : Priority → Core → List ℕ → List ℕ → Kept → Rows → Collected
 handing p c masters started k w =
-    let n : ℕ = refusal_of (unlent (queue_of p c) w) false c masters started k in
-    pick (same n 0) (handed (queue_of p c) w.row) (Refused n)
+    pick (same (refusal_of (unlent (queue_of p c) w) c masters started k) 0)
+    (handed (queue_of p c) w.row)
+    (Refused (refusal_of (unlent (queue_of p c) w) c masters started k))
 
 -- what submit answers by what was decided: the refusal, or the place, and the state with the queue
 unfoldable pub accepted_for : Priority → Taken → State → Accepted

@@ -1,6 +1,7 @@
 // The station's calls submit and collect: each takes any state, any row and any octets, and answers. Assumes nothing.
 ghost use Rattle.std.specs.Prelude.{◌≡◌, ◌≤◌};
 ghost use Rattle.request.specs.Record.{limited as record_limited};
+ghost use Rattle.queue.specs.Queue.{misfit};
 ghost use Rattle.rows.specs.Rows.{left};
 ghost use Rattle.state.specs.World.{rows};
 ghost use Rattle.state.specs.Calls.{submit as calls_submit, collect as calls_collect};
@@ -9,27 +10,27 @@ ghost use Rattle.station_queues.specs.Decided.{refusal_of, accepted_for, taking 
 ghost use Rattle.station_queues.specs.Decided.{handing as decided_handing};
 
 use frame::{Address, Point};
-use queue::{Collected, Taken};
+use queue::{Collected, Queue, Taken};
 use request::Record;
 use state::{Accepted, Core, HandedBack, Kept, Priority, State};
 
-// The refusal of submit and collect, or 0: for a row or a data area that is not the queue's, for a station that has
-// stopped, which only submit refuses, and for the state.
+// The refusal of submit and collect for the state, or for a row of so many octets or records, so many for each place,
+// and a data area of so many octets; or 0.
 pub fn refusal(
-    unfit: bool,
-    stopped: bool,
+    q: Queue,
     c: Core,
     masters: &[u8; 127],
     started: &[u8; 127],
     k: Kept,
+    each: usize,
+    row: usize,
+    area: usize,
 ) -> u8
-    ensures { result ≡ refusal_of unfit stopped c masters.now started.now k }
+    requires { each ≤ 255 }
+    ensures { result ≡ refusal_of (misfit q each row area) c masters.now started.now k }
 {
-    if unfit {
+    if queue::misfit(q, each, row, area) {
         return 21;
-    }
-    if stopped {
-        return 31;
     }
     if refusals::lawless(c, masters, started, k) {
         return 29;
@@ -64,9 +65,16 @@ fn taking(
 {
     let ts = c.ts;
     let q = acts::queue_of(p, c);
-    let unfit = refusals::unlent(q, row, area);
-    let stopped = refusals::stopped(c);
-    let n = refusal(unfit, stopped, c, masters, started, k);
+    let n = refusal(
+        q,
+        c,
+        masters,
+        started,
+        k,
+        request::SIZE,
+        row.len(),
+        area.len(),
+    );
     if n != 0 {
         return queue::refuse(n, q, r);
     }
@@ -131,8 +139,16 @@ fn handing(
         (rows row.now area.now) }
 {
     let q = acts::queue_of(p, c);
-    let unfit = refusals::unlent(q, row, area);
-    let n = refusal(unfit, false, c, masters, started, k);
+    let n = refusal(
+        q,
+        c,
+        masters,
+        started,
+        k,
+        request::SIZE,
+        row.len(),
+        area.len(),
+    );
     if n != 0 {
         return Collected::Refused(n);
     }

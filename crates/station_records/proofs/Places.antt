@@ -23,7 +23,7 @@ use Rattle.state.specs.declared.Priority.{Priority}
 use Rattle.state.specs.declared.State.{State}
 use Rattle.state.specs.declared.HandedBack.{HandedBack}
 use Rattle.state.specs.World.{rows, queue_of}
-use Rattle.state.specs.Refusals.{unlent, has_stopped}
+use Rattle.state.specs.Refusals.{unlent}
 use Rattle.state.specs.Told.{hand_of}
 use Rattle.station_queues.specs.Decided.{refusal_of, taking, handing}
 use Rattle.station_queues.proofs.Lent.{unrefused-lent, collect-hand}
@@ -46,13 +46,12 @@ unlent-places q places row area l =
     (pick (less 64 q.places) true (pick b (pick (same (length area) (AREA * q.places)) false true) true)))
     (ap (λ (n : ℕ). same n (SIZE * q.places)) l ∙ same-scaled places q.places)
 
--- of a call that refuses a stopped station or not
-module _ (s : State) (p : Priority) (stopped : Bool) (places size : ℕ) where
+module _ (s : State) (p : Priority) (places size : ℕ) where
   abbrev q : Queue
   q = queue_of p s.core
 
   abbrev refusal_for : Bool → ℕ
-  refusal_for u = refusal_of u stopped s.core s.masters.0 s.started.0 s.memory.kept
+  refusal_for u = refusal_of u s.core s.masters.0 s.started.0 s.memory.kept
 
   -- the refusal as the code finds it, and as the station has it for a row of octets
   abbrev pub Found : ℕ → Type 0
@@ -75,7 +74,7 @@ module _ (s : State) (p : Priority) (stopped : Bool) (places size : ℕ) where
       let area : List ℕ = replicate size 0 in
       let l : length row ≡ SIZE * places = length-replicate (SIZE * places) 0 in
       let m : length area ≡ size = length-replicate size 0 in
-      let u = unrefused-lent p s.core s.masters.0 s.started.0 s.memory.kept (rows row area) stopped
+      let u = unrefused-lent p s.core s.masters.0 s.started.0 s.memory.kept (rows row area)
       (sym (of_row f row area l m) ∙ z) in
       record {
         ruled = u.0;
@@ -89,21 +88,18 @@ module _ (s : State) (p : Priority) (r : Record) (x : List ℕ) (places : ℕ) (
   abbrev own : Record
   own = limited s.core.settings.retries.0 r
 
-  abbrev stopped : Bool
-  stopped = has_stopped s.core.doing.phase
-
-  pub takes-refused : {n : ℕ} → Found s p stopped places (length area) n → (n ≡ 0 → ⊥)
+  pub takes-refused : {n : ℕ} → Found s p places (length area) n → (n ≡ 0 → ⊥)
       → Takes s p r x places area (refuse n (queue_of p s.core) r) area
   unfolding taking placed refuse
   takes-refused {n = n} f h =
       record {
-        all = λ row l. rw (← of_row s p stopped places (length area) f row area l refl)
+        all = λ row l. rw (← of_row s p places (length area) f row area l refl)
             (ap (λ (w : List ℕ). left (refuse n (queue_of p s.core) r) w area) (sym (unless-same _ h refl))
             ∙ unless-same _ h refl);
         within = λ z. absurd (h z);
       }
 
-  taken-within : {t : Taken} → Ready s p stopped places (length area)
+  taken-within : {t : Taken} → Ready s p places (length area)
       → t ≡ taken s.core.ts.0 (queue_of p s.core) own (length x) → t.refused ≡ 0 → t.place < places
   taken-within y d z =
       let row : List ℕ = replicate (SIZE * places) 0 in
@@ -114,36 +110,36 @@ module _ (s : State) (p : Priority) (r : Record) (x : List ℕ) (places : ℕ) (
       in
       omega (arith, l, h.record-fits)
 
-  pub takes-taken : {n : ℕ} {t : Taken} {area' : List ℕ} → Found s p stopped places (length area) n → n ≡ 0
+  pub takes-taken : {n : ℕ} {t : Taken} {area' : List ℕ} → Found s p places (length area) n → n ≡ 0
       → t ≡ taken s.core.ts.0 (queue_of p s.core) own (length x) → area' ≡ filled t x area
       → Takes s p r x places area t area'
   unfolding taking submitted
   takes-taken {t = t} f z d e =
       record {
-        all = λ row l. rw (← of_row s p stopped places (length area) f row area l refl)
+        all = λ row l. rw (← of_row s p places (length area) f row area l refl)
             (if-same _ z
             (rw e (is-stored t x row area)
             ∙ ap (λ (w : Taken). stored w x row area) d));
-        within = taken-within (ready s p stopped places (length area) f z) d;
+        within = taken-within (ready s p places (length area) f z) d;
       }
 
 -- ---- collect
 module _ (s : State) (p : Priority) (r : Record) (places size : ℕ) where
-  pub hands-refused : {n : ℕ} {h : HandedBack} → Found s p false places size n → (n ≡ 0 → ⊥)
-      → h ≡ hand_of p (Refused n) s → Hands s p r places size h
+  pub hands-refused : {n : ℕ} {h : HandedBack} → Found s p places size n → (n ≡ 0 → ⊥) → h ≡ hand_of p (Refused n) s
+      → Hands s p r places size h
   unfolding handing
   hands-refused f z e =
       record {
         all = λ row area l m g. e ∙ collect-hand s p row area
-            (rw (← of_row s p false places size f row area l m) (unless-same _ z refl));
+            (rw (← of_row s p places size f row area l m) (unless-same _ z refl));
       }
 
-  pub hands-taken : {n : ℕ} {h : HandedBack} {c : Collected} → Found s p false places size n → n ≡ 0
+  pub hands-taken : {n : ℕ} {h : HandedBack} {c : Collected} → Found s p places size n → n ≡ 0
       → c ≡ collected (queue_of p s.core) r → h ≡ hand_of p c s → Hands s p r places size h
   unfolding handing handed
   hands-taken f z d e =
       record {
         all = λ row area l m g. e ∙ collect-hand s p row area
-            (rw (← of_row s p false places size f row area l m)
+            (rw (← of_row s p places size f row area l m)
             (if-same _ z (d ∙ ap (collected (queue_of p s.core)) g)));
       }

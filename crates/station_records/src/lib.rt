@@ -23,9 +23,7 @@ fn deciding(s: State, p: Priority, r: Record, x: &[u8], places: usize, area: &mu
     let kept = s.memory.kept;
     let ts = core.ts;
     let q = acts::queue_of(p, core);
-    let unfit = queue::misfit(q, 1, places, area.len());
-    let stopped = refusals::stopped(core);
-    let n = station_queues::refusal(unfit, stopped, core, &masters, &started, kept);
+    let n = station_queues::refusal(q, core, &masters, &started, kept, 1, places, area.len());
     if n != 0 {
         return queue::refuse(n, q, r);
     }
@@ -68,8 +66,7 @@ fn handing(s: State, p: Priority, r: Record, places: usize, area: usize) -> Hand
     let started = s.started.0;
     let kept = s.memory.kept;
     let q = acts::queue_of(p, core);
-    let unfit = queue::misfit(q, 1, places, area);
-    let n = station_queues::refusal(unfit, false, core, &masters, &started, kept);
+    let n = station_queues::refusal(q, core, &masters, &started, kept, 1, places, area);
     if n != 0 {
         return station_queues::returning(s, p, Collected::Refused(n));
     }

@@ -3,4 +3,4 @@ pub mod resetting;
 pub mod starting;
 
 pub use resetting::reset;
-pub use starting::{listen, start};
+pub use starting::start;

@@ -1,15 +1,11 @@
 // The station's call reset: it takes any state and any rows, and answers. Assumes nothing.
 ghost use Rattle.std.specs.Prelude.{◌≡◌, []};
-ghost use Rattle.choice.specs.Choice.{pick};
 ghost use Rattle.state.specs.World.{rows, world_of};
-ghost use Rattle.state.specs.Calls.{reset as calls_reset};
-ghost use Rattle.state.specs.Fresh.{present, absent, begins_with, count_of, sendings_of, begun as calls_begun};
+ghost use Rattle.state.specs.Calls.{count_of, sendings_of, begun as calls_begun, reset as calls_reset};
 ghost use Rattle.state.specs.Told.{leaves, reset_of};
-ghost use Rattle.station_start.specs.Beginning.{fresh_of};
 ghost use Rattle.station_start.specs.Refused.{refusal_of};
 
 use super::starting;
-use super::starting::Beginning;
 use ring::Masters;
 use state::{Core, Kept, Phase, Priority, Renewed, State};
 
@@ -23,7 +19,6 @@ fn begun(phase: Phase, n: u8) -> u8
         Phase::Sdn => n,
         Phase::Check => 0,
         Phase::ToSelf => 0,
-        Phase::Outside(_) => 0,
     }
 }
 
@@ -83,24 +78,10 @@ fn refusal(
     if refusals::unlent(lower, low, larea) {
         return 21;
     }
-    if refusals::stopped(c) {
-        return 31;
-    }
     if refusals::lawless(c, masters, started, k) {
         return 29;
     }
     0
-}
-
-// What a station begins with at a reset: as it was started, so that without a set of masters it listens afresh.
-fn afresh(c: Core, started: Masters) -> Beginning
-    ensures { fresh_of result ≡ begins_with (pick c.learner.listens absent (present started.0)) c.ts.0 }
-{
-    let learner = c.learner;
-    if learner.listens {
-        return starting::silent(c.ts);
-    }
-    starting::in_ring(started)
 }
 
 // Resets a station: confirms all unconfirmed requests DS, and begins afresh as it was started.
@@ -135,11 +116,10 @@ pub fn reset(
             state: s,
         };
     }
-    let b = afresh(core, Masters(started));
     let upper = rows::drain(first, count_of(Priority::High, core), high, harea);
     let lower = rows::drain(second, count_of(Priority::Low, core), low, larea);
     Renewed {
         refused: 0,
-        state: starting::fresh(settings, ts, b, points, upper, lower, octets),
+        state: starting::fresh(settings, ts, Masters(started), points, upper, lower, octets),
     }
 }

@@ -1,57 +1,49 @@
-// The station's call start, with a set of masters and without one, and the state that start and reset give. Assumes
-// nothing.
-ghost use Rattle.std.specs.Prelude.{◌≡◌, ℕ, ◌<◌, ◌≤◌};
+// The station's call start, and the state that start and reset give. Assumes nothing.
+ghost use Rattle.std.specs.Prelude.{◌≡◌, ◌<◌, ◌≤◌};
 ghost use Rattle.queue.specs.Queue.{PLACES};
 ghost use Rattle.state.specs.World.{state_of};
-ghost use Rattle.state.specs.Calls.{Unstarted, start as calls_start};
-ghost use Rattle.state.specs.Fresh.{present, absent, begins_with, no_rows, empty_queue, fresh_core, fresh_world};
+ghost use Rattle.state.specs.Calls.{Unstarted, no_rows, empty_queue, fresh_core, fresh_world, start as calls_start};
 ghost use Rattle.state.specs.Told.{started_of, blank, blank_settings};
-ghost use Rattle.station_start.specs.Beginning.{fresh_of, Starts};
 
 use clock::BitTime;
 use frame::Address;
 use queue::Queue;
 use ring::Masters;
-use state::{Kept, Learner, Marks, Memory, Phase, Points, Renewed, Stage, State};
+use state::{Core, Doing, Hold, Kept, Marks, Memory, Phase, Points, Priority, Renewed, State};
 use times::{Count, Settings};
 
-// What a station begins with: its phase, how it learns its ring, and its set of masters.
-#[derive(Drop)]
-pub struct Beginning {
-    pub phase: Phase,
-    pub learner: Learner,
-    pub masters: Masters,
-}
-
-// With a set of masters a station is in its ring, and Idle.
-pub fn in_ring(masters: Masters) -> Beginning
-    ensures { (ts : ℕ) → fresh_of result ≡ begins_with (present masters.0) ts }
+// The core of a station that nothing has happened to.
+fn fresh_core(settings: Settings, ts: Address, masters: Masters, high: Queue, low: Queue) -> Core
+    requires { ts.0 < 127 }
+    ensures { result ≡ fresh_core settings ts.0 masters.0 high low }
 {
-    Beginning {
-        phase: Phase::Idle,
-        learner: acts::deaf(false),
-        masters,
+    let set = masters.0;
+    Core {
+        settings,
+        ts,
+        ps: ring::previous(&set, ts),
+        stranger: Address(state::NOBODY),
+        doing: Doing {
+            phase: Phase::Idle,
+            served: Priority::High,
+            sendings: 0,
+            sdn: false,
+        },
+        hold: Hold {
+            acceptance: BitTime(0),
+            before: BitTime(0),
+            begun: 0,
+        },
+        high,
+        low,
     }
 }
 
-// Without one it begins silent, and the set is TS alone.
-pub fn silent(ts: Address) -> Beginning
-    ensures { fresh_of result ≡ begins_with absent ts.0 }
-{
-    let mut set = [0; 127];
-    ring::alone(&mut set, ts);
-    Beginning {
-        phase: Phase::Outside(Stage::Listening),
-        learner: acts::deaf(true),
-        masters: Masters(set),
-    }
-}
-
-// The state of a station that begins so, with what its memory's octets are.
+// The state of a station that starts afresh, with what its memory's octets are.
 pub fn fresh(
     settings: Settings,
     ts: Address,
-    b: Beginning,
+    masters: Masters,
     points: Points,
     high: Queue,
     low: Queue,
@@ -60,14 +52,11 @@ pub fn fresh(
     requires { ts.0 < 127 }
     ensures { result
         ≡ state_of
-        (fresh_world (fresh_core settings ts.0 (fresh_of b) high low) b.masters.0 points.0 octets no_rows
+        (fresh_world (fresh_core settings ts.0 masters.0 high low) masters.0 points.0 octets no_rows
         no_rows) }
 {
-    let phase = b.phase;
-    let masters = b.masters;
-    let set = masters.0;
     State {
-        core: acts::fresh_core(settings, ts, phase, b.learner, &set, high, low),
+        core: fresh_core(settings, ts, masters, high, low),
         masters,
         started: masters,
         marks: Marks([2; 127]),
@@ -119,7 +108,7 @@ fn blank_state() -> State
     fresh(
         blank_settings(),
         Address(0),
-        in_ring(Masters([0; 127])),
+        Masters([0; 127]),
         Points([0; 64]),
         empty(0),
         empty(0),
@@ -137,18 +126,17 @@ fn unstarted(n: u8) -> Renewed
     }
 }
 
-// Starts a station that begins so, with queues of so many places.
-fn begin(
+// Starts a station with queues of so many places.
+pub fn start(
     settings: Settings,
     ts: Address,
-    b: Beginning,
+    masters: Masters,
     points: Points,
     high: usize,
     low: usize,
 ) -> Renewed
-    ensures { Starts settings ts.0 b points.0 high low result }
+    ensures { result ≡ started_of (calls_start settings ts.0 masters.0 points.0 high low) }
 {
-    let masters = b.masters;
     let set = masters.0;
     if refusals::unstartable(settings, ts, &set) {
         return unstarted(20);
@@ -167,27 +155,14 @@ fn begin(
     }
     Renewed {
         refused: 0,
-        state: fresh(settings, ts, b, points, empty(high), empty(low), [0; 255]),
+        state: fresh(
+            settings,
+            ts,
+            masters,
+            points,
+            empty(high),
+            empty(low),
+            [0; 255],
+        ),
     }
-}
-
-// Starts a station in a ring of those masters.
-pub fn start(
-    settings: Settings,
-    ts: Address,
-    masters: Masters,
-    points: Points,
-    high: usize,
-    low: usize,
-) -> Renewed
-    ensures { result ≡ started_of (calls_start settings ts.0 (present masters.0) points.0 high low) }
-{
-    begin(settings, ts, in_ring(masters), points, high, low)
-}
-
-// Starts a station without a set of masters: it learns its ring by listening.
-pub fn listen(settings: Settings, ts: Address, points: Points, high: usize, low: usize) -> Renewed
-    ensures { result ≡ started_of (calls_start settings ts.0 absent points.0 high low) }
-{
-    begin(settings, ts, silent(ts), points, high, low)
 }

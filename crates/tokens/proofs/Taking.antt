@@ -4,7 +4,7 @@ use mathlib.Core.Path.{◌≡◌, refl, sym}
 use mathlib.Core.List.{List, [], ◌∷◌}
 use Rattle.choice.proofs.Rules.{if-same, unless-same, if-less, unless-less}
 use Rattle.frame.specs.declared.Address.{Address}
-use Rattle.ring.specs.Ring.{next_of, enter, remove, alone}
+use Rattle.ring.specs.Ring.{next_of, enter, remove}
 use Rattle.times.specs.declared.Sending.TheVariants.{Other}
 use Rattle.state.specs.declared.Core.{Core}
 use Rattle.state.specs.declared.Moved.{Moved}
@@ -13,7 +13,6 @@ use Rattle.state.specs.World.{with_masters}
 use Rattle.state.specs.Request.{once, wait_for}
 use Rattle.state.specs.Pass.{ns, token_to, pass_core, pass_events, pass, pass_again, ps_without, without, recheck}
 use Rattle.state.specs.Hold.{begin, admit, token}
-use Rattle.state.specs.Listening.{lone, claim}
 use Rattle.state.specs.Told.{Sends, Does, Rechecks, telling, untold}
 use Rattle.serve.proofs.Telling.{lays-nothing, does-sends, does-pass}
 
@@ -63,19 +62,6 @@ module _ (masters marks : List ℕ) (high low : Rows) where
       → admit a.0 (site_of c masters marks high low) ≡ site_of c' masters' marks high low
   unfolding admit with_core with_masters
   is-admitted c a e f = rw (e, f)
-
-  -- a claim: the set is TS alone, and PS is TS
-  is-lone : (c : Core) {c' : Core} {masters' : List ℕ} → c' ≡ with_ps c.ts c → masters' ≡ alone c.ts.0
-      → lone (site_of c masters marks high low) ≡ site_of c' masters' marks high low
-  unfolding lone with_core with_masters
-  is-lone c e f = rw (e, f)
-
-  pub does-claimed : (clock : ℕ) (c : Core) {c' : Core} {masters' out out' : List ℕ} {r : Moved}
-      → c' ≡ with_ps c.ts c → masters' ≡ alone c.ts.0
-      → Does (begin clock (site_of c' masters' marks high low)) out r masters' marks high low out'
-      → Does (claim clock (site_of c masters marks high low)) out r masters' marks high low out'
-  unfolding claim
-  does-claimed clock c e f d = rw (is-lone c e f) d
 
   pub does-admitted : (clock : ℕ) (c : Core) (a : Address) {c' : Core} {masters' out out' : List ℕ} {r : Moved}
       → c' ≡ with_ps a c → masters' ≡ enter masters a.0

@@ -1,11 +1,9 @@
-// How a token is taken in Idle, how one is claimed outside the ring, and how a pass is checked: the acts that change the
-// set of masters. Assumes nothing.
+// How a token is taken in Idle, and how a pass is checked: the acts that change the set of masters. Assumes nothing.
 ghost use Rattle.std.specs.Prelude.{◌≡◌, ◌<◌, ◌≤◌, length, [], ◌∷◌};
 ghost use Rattle.state.specs.World.{rows, site_of, with_doing, aToken, sends};
 ghost use Rattle.state.specs.Request.{once, wait_for};
 ghost use Rattle.state.specs.Pass.{token_to, ps_without};
 ghost use Rattle.state.specs.Hold.{token as hold_token};
-ghost use Rattle.state.specs.Listening.{claim as listening_claim};
 ghost use Rattle.state.specs.Refusals.{Lawful, Sited};
 ghost use Rattle.state.specs.Told.{Sends, Does, Rechecks};
 
@@ -66,32 +64,6 @@ pub fn token(
         return serve::begin(clock, core, masters, marks, high, harea, low, larea, out);
     }
     quiet(acts::with_stranger(a, c))
-}
-
-// The bus stayed quiet outside the ring: the token is claimed, and a hold begins.
-pub fn claim(
-    clock: BitTime,
-    c: Core,
-    masters: &mut [u8; 127],
-    marks: &[u8; 127],
-    high: &[u8],
-    harea: &[u8],
-    low: &[u8],
-    larea: &[u8],
-    out: &mut [u8],
-) -> Moved
-    requires { (Sited c (rows high.now harea.now) (rows low.now larea.now)) × (255 ≤ length out.old) }
-    ensures { Does
-        (listening_claim clock.0
-        (site_of c masters.old marks.now (rows high.now harea.now)
-        (rows low.now larea.now))) out.old result masters.new
-        marks.now (rows high.now harea.now)
-        (rows low.now larea.now) out.new }
-{
-    let ts = c.ts;
-    ring::alone(masters, ts);
-    let core = acts::with_ps(ts, c);
-    serve::begin(clock, core, masters, marks, high, harea, low, larea, out)
 }
 
 // Sends the token to NS once more.

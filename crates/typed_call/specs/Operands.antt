@@ -1,7 +1,7 @@
 -- The replay script: what the words of a call's line give the call, each a function of the line. Assumes nothing.
-use Rattle.std.specs.Prelude.{ℕ, Bool, true, false, List, [], ◌∷◌, replicate}
+use Rattle.std.specs.Prelude.{ℕ, Bool, true, false, List, [], replicate}
 use Rattle.choice.specs.Choice.{pick, less, same, said}
-use Rattle.typed.specs.Words.{word, equal}
+use Rattle.typed.specs.Words.{word}
 use Rattle.typed.specs.Digits.{decimal, is_octets, octets}
 use Rattle.typed.specs.Lists.{list}
 use Rattle.typed.specs.Places.{LONG, SHORT, queue, room, service, access}
@@ -11,7 +11,6 @@ use Rattle.times.specs.declared.Settings.{Settings}
 use Rattle.request.specs.declared.Record.{Record}
 use Rattle.request.specs.Record.{WAITING}
 use Rattle.frame.specs.Access.{NONE}
-use Rattle.state.specs.Fresh.{Given, present, absent}
 use Rattle.state.specs.declared.Priority.{Priority}
 use Rattle.state.specs.declared.Priority.TheVariants.{High, Low}
 
@@ -52,18 +51,6 @@ ts_of l = octet (number_at l Table.TS LONG)
 
 unfoldable pub masters_of : List ℕ → List ℕ
 masters_of l = (list false (word l Table.MASTERS) (replicate 127 0)).marks
-
--- "listen"
-abbrev pub w-listen : List ℕ
-w-listen = 0x6C ∷ (0x69 ∷ (0x73 ∷ (0x74 ∷ (0x65 ∷ (0x6E ∷ [])))))
-
--- of order 2: "the word `listen` in the place of `masters`", a start without a set
-unfoldable pub listens_of : List ℕ → Bool
-listens_of l = equal (word l Table.MASTERS) w-listen
-
--- what a start is given: no set, or that of its list
-unfoldable pub given_of : List ℕ → Given
-given_of l = pick (said (listens_of l)) absent (present (masters_of l))
 
 unfoldable pub points_of : List ℕ → List ℕ
 points_of l = (list true (word l Table.POINTS) (replicate 64 0)).marks

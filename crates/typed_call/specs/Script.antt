@@ -1,6 +1,6 @@
 -- The replay script, its table of lines: the word and the count of words of each call, and what fits each place. A line
 -- that is no call of the table is Unknown. Assumes nothing.
-use Rattle.std.specs.Prelude.{ℕ, Bool, true, false, List, [], ◌∷◌}
+use Rattle.std.specs.Prelude.{ℕ, Bool, false, List, [], ◌∷◌}
 use Rattle.choice.specs.Choice.{pick, said}
 use Rattle.typed.specs.Words.{word}
 use Rattle.typed.specs.Digits.{is_octets}
@@ -8,7 +8,6 @@ use Rattle.typed.specs.Places.{LONG, SHORT, queue, room, service, access, called
 use Rattle.typed.specs.Places.{is_masters, is_points}
 use Rattle.typed_call.specs.Table as Table
 use Rattle.typed_call.specs.Pairs.{start_pairs, submit_pairs}
-use Rattle.typed_call.specs.Operands.{listens_of}
 use Rattle.typed_call.specs.declared.script.Call.{Call}
 use Rattle.typed_call.specs.declared.script.Call.TheVariants.{Unknown, Start, Submit, Frame, Sent, Slot, Reset}
 use Rattle.typed_call.specs.declared.script.Call.TheVariants.{Collect, Show}
@@ -49,13 +48,10 @@ w-show = 0x73 ∷ (0x68 ∷ (0x6F ∷ (0x77 ∷ [])))
 -- ---- the calls
 -- `start Tset Tqui minTSDR maxTSDR TTD TTR retry TS masters points high low`, and behind it its pairs. "A pair out of
 -- this order, named twice, unknown, or of a request that has not landed" is behind the last pair that is read, and so
--- a word too many. In the place of the masters is a list of them or, of order 2, the word `listen`
-unfoldable pub is_given : List ℕ → Bool
-is_given l = pick (said (listens_of l)) true (is_masters (word l Table.MASTERS))
-
+-- a word too many
 unfoldable pub is_site : List ℕ → Bool
 is_site l =
-    pick (said (is_given l))
+    pick (said (is_masters (word l Table.MASTERS)))
     (pick (said (is_points (word l Table.POINTS))) (numbers l Table.HIGHROW Table.ROWS SHORT) false) false
 
 unfoldable pub is_start : List ℕ → Bool

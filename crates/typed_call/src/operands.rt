@@ -6,8 +6,8 @@ ghost use Rattle.typed.specs.Places.{access as places_access, service as places_
 ghost use Rattle.typed.specs.Places.{LONGEST, MOSTOCTETS};
 ghost use Rattle.typed_call.specs.Table.{SERVICE};
 ghost use Rattle.typed_call.specs.Operands.{number_at, octets_at, octet as operands_octet};
-ghost use Rattle.typed_call.specs.Operands.{point as operands_point, settings_of, ts_of, masters_of, listens_of};
-ghost use Rattle.typed_call.specs.Operands.{points_of, high_of, low_of, queue_of, request_of, clock_of, room_of};
+ghost use Rattle.typed_call.specs.Operands.{point as operands_point, settings_of, ts_of, masters_of, points_of};
+ghost use Rattle.typed_call.specs.Operands.{high_of, low_of, queue_of, request_of, clock_of, room_of};
 
 use super::{pairs, table};
 use clock::BitTime;
@@ -93,20 +93,13 @@ pub fn ts(line: &[u8]) -> Address
     Address(octet(number(line, table::TS, LONG)))
 }
 
-// The set of masters of start; of one that listens it says nothing.
+// The set of masters of start.
 pub fn masters(line: &[u8]) -> Masters
     ensures { result.0 ≡ masters_of line.now }
 {
     let mut set = [0u8; 127];
     let _good = lists::masters(words::word(line, table::MASTERS), &mut set);
     Masters(set)
-}
-
-// Whether a start is given no set of masters, but learns its ring by listening.
-pub fn listens(line: &[u8]) -> bool
-    ensures { result ≡ listens_of line.now }
-{
-    words::equal(words::word(line, table::MASTERS), b"listen")
 }
 
 // The active access points of start.

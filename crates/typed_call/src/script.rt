@@ -1,10 +1,10 @@
 // A line of the replay script as a call of its table, or none. Only what the line is is said here; what the words of a
 // good line give the call is read by `operands`. Assumes nothing.
 ghost use Rattle.std.specs.Prelude.{◌≡◌};
-ghost use Rattle.typed_call.specs.Script.{is_given, is_site, is_start, is_pointed, is_request, is_submit, is_heard};
-ghost use Rattle.typed_call.specs.Script.{is_frame, is_clocked, is_collect, plain_of, clocked_of, call_of};
+ghost use Rattle.typed_call.specs.Script.{is_site, is_start, is_pointed, is_request, is_submit, is_heard, is_frame};
+ghost use Rattle.typed_call.specs.Script.{is_clocked, is_collect, plain_of, clocked_of, call_of};
 
-use super::{operands, pairs, table};
+use super::{pairs, table};
 use typed::places;
 use typed::places::{LONG, SHORT};
 
@@ -22,21 +22,11 @@ pub enum Call {
     Show,
 }
 
-// Whether the word in the place of the masters fits it: `listen`, or a list of them.
-fn is_given(s: &[u8]) -> bool
-    ensures { result ≡ is_given s.now }
-{
-    if operands::listens(s) {
-        return true;
-    }
-    places::masters_at(s, table::MASTERS)
-}
-
 // Whether the words of a start from the masters on fit their places.
 fn is_site(s: &[u8]) -> bool
     ensures { result ≡ is_site s.now }
 {
-    if !is_given(s) {
+    if !places::masters_at(s, table::MASTERS) {
         return false;
     }
     if !places::points_at(s, table::POINTS) {

@@ -1,15 +1,12 @@
-//! "Answering" of document 01: what the station does with another's request, in Idle only; and the reply to FDL status,
-//! which document 02's order 2 has outside the ring too.
+//! "Answering" of document 01: what the station does with another's request, in Idle only.
 
 use crate::frame::{self, Head, LAST_DESTINATION_POINT};
 use crate::hold::written;
 use crate::queue::{Priority, Service};
-use crate::station::{Heard, Indication, Outcome, Phase, Remembered, Sending, Station};
+use crate::station::{Heard, Indication, Outcome, Remembered, Sending, Station};
 use crate::transitions::{note, Transition};
 
-/// A master that is not ready, ready, or in the ring, in the type bits of a reply's FC.
-const NOT_READY: u8 = 0x10;
-const READY: u8 = 0x20;
+/// A master in the ring, in the type bits of a reply's FC.
 const IN_RING: u8 = 0x30;
 
 const OK: u8 = 0;
@@ -50,15 +47,10 @@ impl Station {
             Service::FdlStatus => {
                 let with_points = head.to.is_some() || head.from.is_some();
                 note(if with_points { Transition::AnswerStatusPoints } else { Transition::AnswerStatus });
-                self.answer_status(head)
+                self.reply(self.coded(head, OK, &[]))
             }
             Service::Sda | Service::Srd => self.answer_counted(&asked, heard),
         }
-    }
-
-    /// FDL status: OK, with the station's type.
-    pub fn answer_status(&self, head: &Head) -> Outcome {
-        self.reply(self.coded(head, OK, &[]))
     }
 
     /// SDN is indicated if its point is active and there is room; it has no reply.
@@ -72,7 +64,7 @@ impl Station {
         }
         let to_own = asked.head.destination == self.address;
         note(if to_own { Transition::SdnIndicated } else { Transition::SdnIndicatedAll });
-        Outcome { indication: Some(asked.indication()), ..Outcome::nothing() }
+        Outcome { sent: None, indication: Some(asked.indication()) }
     }
 
     /// SDA and SRD: a repeat gets the remembered octets; a new one is answered and, unless 0 0, remembered.
@@ -120,24 +112,16 @@ impl Station {
         Outcome::send(Sending { wait: self.settings.min_tsdr, octets })
     }
 
-    /// A coded reply of a master in its stage, addresses and access points swapped.
+    /// A coded reply of a master in the ring, addresses and access points swapped.
     fn coded(&self, head: &Head, code: u8, data: &[u8]) -> Vec<u8> {
         let reply = Head {
             destination: head.source,
             to: head.from,
             source: self.address,
             from: head.to,
-            control: self.station_type() | code,
+            control: IN_RING | code,
         };
         written(|out| frame::write(&reply, data, out))
-    }
-
-    fn station_type(&self) -> u8 {
-        match self.phase {
-            Phase::Listening => NOT_READY,
-            Phase::Ready => READY,
-            _ => IN_RING,
-        }
     }
 
     /// Counts what FCB and FCV say against the memory.
@@ -173,7 +157,7 @@ fn short() -> Vec<u8> {
 }
 
 /// The service of a request's FC, which the reader found listed.
-pub fn service_of(control: u8) -> Service {
+fn service_of(control: u8) -> Service {
     match control & 0x0F {
         3 | 5 => Service::Sda,
         4 | 6 => Service::Sdn,

@@ -1,7 +1,7 @@
 //! What is broken in a forged case: each number at and past its bounds, sets, rows, buffers, records and requests.
 
-use crate::cases::{Call, Case, SDA, SDN, SRD};
-use crate::cores::{Counts, PASS_CHECKED, PASS_TO_SELF, REPLY_AWAITED, SDN_GOING_OUT, STOPPED};
+use crate::cases::{Call, Case, Counts, SDA, SDN, SRD};
+use crate::cases::{PASS_CHECKED, PASS_TO_SELF, REPLY_AWAITED, SDN_GOING_OUT};
 use crate::forged::record_mut;
 use crate::lends;
 use crate::queue::Priority;
@@ -15,29 +15,22 @@ type Break = fn(&mut Case, &mut Random);
 /// Breaks one thing that the case's call is given.
 pub fn one(case: &mut Case, random: &mut Random) {
     let own: &[(usize, &[Break])] = match case.call {
-        Call::Start | Call::Listen => &[(3, &SETTINGS), (2, &SETS), (2, &PLACES)],
+        Call::Start => &[(3, &SETTINGS), (2, &SETS), (2, &PLACES)],
         Call::Reset => &[(2, &UNCONFIRMED), (1, &CONFIRMED)],
         Call::Submit(_) => &[(8, &REQUESTS), (2, &UNCONFIRMED), (2, &CONFIRMED)],
         Call::Collect(_) => &[(7, &CONFIRMED), (1, &UNCONFIRMED)],
         Call::Hear => &[(1, &OUTPUT), (2, &UPDATES), (4, &UNCONFIRMED), (1, &CONFIRMED)],
         Call::Sent | Call::Slot => &[(2, &OUTPUT), (4, &UNCONFIRMED), (1, &CONFIRMED)],
     };
-    let state: &[_] = if case.call.is_start() { &[] } else { &STATE };
+    let state: &[_] = if case.call == Call::Start { &[] } else { &STATE };
     let tables: Vec<_> = own.iter().chain(state).copied().collect();
     let table = random.weighted(&tables);
     random.pick(table)(case, random);
 }
 
 /// What every call with a state is given.
-const STATE: [(usize, &[Break]); 7] = [
-    (2, &SETTINGS),
-    (2, &SETS),
-    (3, &NUMBERS),
-    (3, &QUEUES),
-    (3, &PHASES),
-    (3, &ROWS),
-    (2, &[|case, _| case.core.phase = STOPPED]),
-];
+const STATE: [(usize, &[Break]); 6] =
+    [(2, &SETTINGS), (2, &SETS), (3, &NUMBERS), (3, &QUEUES), (3, &PHASES), (3, &ROWS)];
 
 /// A queue, more often the one that the call is lent.
 fn some_queue(case: &Case, random: &mut Random) -> Priority {
@@ -98,21 +91,18 @@ fn at(octets: &mut [u8; 127], address: u8) -> &mut u8 {
     &mut octets[usize::from(address.min(126))]
 }
 
-/// The core's other numbers, at and past what they can mean. Sendings, holds begun and what is learned are any number.
-const NUMBERS: [Break; 13] = [
+/// The core's other numbers, at and past what they can mean. Sendings and holds begun are any number in rule.
+const NUMBERS: [Break; 10] = [
     |case, random| case.core.ps = random.pick(&[126, 127, 128, 255]),
     |case, random| case.core.stranger = random.pick(&[126, 127, 128, 255]),
     |case, random| case.core.source = random.pick(&[126, 127, 128, 255]),
     |case, random| case.core.length = random.pick(&[255, 256, 257, 511, 512, 32_768, 65_535]),
-    |case, random| case.core.phase = random.pick(&[STOPPED, STOPPED + 1, STOPPED + 1, 128, 255]),
+    |case, random| case.core.phase = random.pick(&[5, 6, 128, 255]),
     |case, random| case.core.served = random.pick(&[2, 3, 128, 255]),
     |case, random| case.core.sdn = random.pick(&[2, 3, 128, 255]),
     |case, random| case.core.bit = random.pick(&[2, 3, 128, 255]),
     |case, random| case.core.sendings = random.octet(),
     |case, random| case.core.begun = random.octet(),
-    |case, random| case.core.listens = random.pick(&[1, 2, 2, 3, 128, 255]),
-    |case, random| case.core.own = random.pick(&[1, 2, 2, 3, 128, 255]),
-    |case, random| case.core.learned[random.below(4)] = random.octet(),
 ];
 
 /// Counts at and above their row.
@@ -162,7 +152,7 @@ fn as_many(case: &mut Case, queue: Priority, places: usize) {
 
 /// Phases at odds with the queue, with NS or with the service in flight.
 const PHASES: [Break; 6] = [
-    |case, random| case.core.phase = random.below(usize::from(STOPPED)) as u8,
+    |case, random| case.core.phase = random.below(5) as u8,
     |case, _| case.core.phase = PASS_TO_SELF,
     |case, _| case.core.served ^= 1,
     |case, random| {

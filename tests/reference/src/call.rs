@@ -146,19 +146,11 @@ fn start(operands: &[&str], values: &[Option<u32>]) -> Option<Start> {
     Some(Start {
         settings,
         address: number(address)?,
-        masters: set_of(masters)?,
+        masters: entries(masters).map(|word| octet_below(word, ALL_STATIONS)).collect::<Option<_>>()?,
         points: entries(points).map(active_point).collect::<Option<Points>>()?,
         high: octet(high)?,
         low: octet(low)?,
     })
-}
-
-/// The set of masters; the word `listen` alone stands for none.
-fn set_of(word: &str) -> Option<Option<Vec<u8>>> {
-    if word == "listen" {
-        return Some(None);
-    }
-    entries(word).map(|entry| octet_below(entry, ALL_STATIONS)).collect::<Option<_>>().map(Some)
 }
 
 /// A decimal number of 32 bits, without a sign.

@@ -12,14 +12,24 @@
 //! | `submit_high`, `submit_low` | STATION ROW AREA SERVICE DA DSAP SSAP REFERENCE LIMIT ASKS COUNT |
 //! | `collect_high`, `collect_low` | STATION ROW AREA |
 //! | `start` | SETTINGS TS MASTERS POINTS PLACES PLACES |
-//! | `listen` | SETTINGS TS POINTS PLACES PLACES |
 //!
 //! STATION is CORE MASTERS STARTED MARKS POINTS; rows and updates are those of the high queue, then the low one.
 
-use crate::cores::{all_read, blank_core, next, number, read_settings, settings_word, Core};
+use std::str::FromStr;
+
 use crate::queue::Priority;
 use crate::rows::{Record, ASKS, LIMIT, RECORD, REFERENCE};
 use crate::text::{hex, unhex};
+use crate::times::Settings;
+
+/// The phases that send something, by their numbers in the core; the last is the last phase.
+pub const REPLY_AWAITED: u8 = 1;
+pub const SDN_GOING_OUT: u8 = 2;
+pub const PASS_CHECKED: u8 = 3;
+pub const PASS_TO_SELF: u8 = 4;
+
+/// In place of a stranger or a remembered sender: nobody.
+pub const NOBODY: u8 = 127;
 
 /// The services, by their octets in a record.
 pub const SDA: u8 = 3;
@@ -38,11 +48,10 @@ pub enum Call {
     Submit(Priority),
     Collect(Priority),
     Start,
-    Listen,
 }
 
 /// The calls and their words.
-pub const CALLS: [(Call, &str); 10] = [
+pub const CALLS: [(Call, &str); 9] = [
     (Call::Hear, "hear"),
     (Call::Sent, "sent"),
     (Call::Slot, "slot"),
@@ -52,7 +61,6 @@ pub const CALLS: [(Call, &str); 10] = [
     (Call::Collect(Priority::High), "collect_high"),
     (Call::Collect(Priority::Low), "collect_low"),
     (Call::Start, "start"),
-    (Call::Listen, "listen"),
 ];
 
 impl Call {
@@ -69,19 +77,89 @@ impl Call {
     pub fn lends(self, queue: Priority) -> bool {
         match self {
             Call::Submit(own) | Call::Collect(own) => own == queue,
-            Call::Start | Call::Listen => false,
+            Call::Start => false,
             _ => true,
         }
     }
+}
 
-    /// Start and listen: they have no station yet.
-    pub fn is_start(self) -> bool {
-        matches!(self, Call::Start | Call::Listen)
+/// What the core says of a queue.
+#[derive(Clone, Debug, PartialEq)]
+pub struct Counts {
+    pub places: u8,
+    pub first: u8,
+    pub confirmed: u8,
+    pub unconfirmed: u8,
+}
+
+/// The core of a station, as struct cihlomet_core.
+#[derive(Clone, Debug)]
+pub struct Core {
+    pub settings: Settings,
+    pub acceptance: u32,
+    pub before: u32,
+    pub ts: u8,
+    pub ps: u8,
+    pub stranger: u8,
+    pub phase: u8,
+    pub served: u8,
+    pub sendings: u8,
+    pub sdn: u8,
+    pub begun: u8,
+    pub high: Counts,
+    pub low: Counts,
+    pub source: u8,
+    pub bit: u8,
+    pub length: u16,
+}
+
+impl Core {
+    pub fn counts(&self, queue: Priority) -> &Counts {
+        match queue {
+            Priority::High => &self.high,
+            Priority::Low => &self.low,
+        }
     }
 
-    /// Those that a stopped station refuses.
-    pub fn needs_running(self) -> bool {
-        !self.is_start() && !matches!(self, Call::Collect(_))
+    pub fn counts_mut(&mut self, queue: Priority) -> &mut Counts {
+        match queue {
+            Priority::High => &mut self.high,
+            Priority::Low => &mut self.low,
+        }
+    }
+
+    fn word(&self) -> String {
+        let queue = |q: &Counts| format!("{},{},{},{}", q.places, q.first, q.confirmed, q.unconfirmed);
+        let Core { acceptance, before, ts, ps, stranger, phase, served, sendings, sdn, begun, .. } = self;
+        let Core { source, bit, length, .. } = self;
+        let (settings, high, low) = (settings_word(&self.settings), queue(&self.high), queue(&self.low));
+        format!(
+            "{settings},{acceptance},{before},{ts},{ps},{stranger},{phase},{served},{sendings},{sdn},{begun},\
+             {high},{low},{source},{bit},{length}"
+        )
+    }
+
+    fn read(word: &str) -> Result<Core, String> {
+        let mut numbers = word.split(',');
+        let core = Core {
+            settings: read_settings(&mut numbers)?,
+            acceptance: next(&mut numbers)?,
+            before: next(&mut numbers)?,
+            ts: next(&mut numbers)?,
+            ps: next(&mut numbers)?,
+            stranger: next(&mut numbers)?,
+            phase: next(&mut numbers)?,
+            served: next(&mut numbers)?,
+            sendings: next(&mut numbers)?,
+            sdn: next(&mut numbers)?,
+            begun: next(&mut numbers)?,
+            high: read_counts(&mut numbers)?,
+            low: read_counts(&mut numbers)?,
+            source: next(&mut numbers)?,
+            bit: next(&mut numbers)?,
+            length: next(&mut numbers)?,
+        };
+        all_read(numbers, core)
     }
 }
 
@@ -136,10 +214,9 @@ impl Case {
 
     pub fn line(&self) -> String {
         let mut words = vec![self.call.word().to_string()];
-        if self.call.is_start() {
+        if self.call == Call::Start {
             words.extend([settings_word(&self.core.settings), self.core.ts.to_string()]);
-            words.extend((self.call == Call::Start).then(|| list_word(&self.masters)));
-            words.push(list_word(&self.points));
+            words.extend([list_word(&self.masters), list_word(&self.points)]);
             words.extend(self.places.map(|places| places.to_string()));
             return words.join(" ");
         }
@@ -171,7 +248,7 @@ impl Case {
                 words.push(count_word(self.data));
                 words
             }
-            Call::Reset | Call::Collect(_) | Call::Start | Call::Listen => Vec::new(),
+            Call::Reset | Call::Collect(_) | Call::Start => Vec::new(),
         }
     }
 
@@ -180,7 +257,7 @@ impl Case {
         let call = CALLS.iter().find(|(_, name)| *name == word).ok_or(format!("no call: {line}"))?.0;
         let mut words = rest.split(' ');
         let mut case = blank(call);
-        if call.is_start() {
+        if call == Call::Start {
             case.read_start(&mut words)?;
         } else {
             case.read_station(&mut words)?;
@@ -192,9 +269,7 @@ impl Case {
     fn read_start<'a>(&mut self, words: &mut impl Iterator<Item = &'a str>) -> Result<(), String> {
         self.core.settings = read_settings(&mut next::<String>(words)?.split(','))?;
         self.core.ts = next(words)?;
-        if self.call == Call::Start {
-            self.masters = read_list(&next::<String>(words)?)?;
-        }
+        self.masters = read_list(&next::<String>(words)?)?;
         self.points = read_list(&next::<String>(words)?)?;
         self.places = [next(words)?, next(words)?];
         Ok(())
@@ -238,10 +313,31 @@ impl Case {
 
 /// A case of zeros, with nothing lent.
 pub fn blank(call: Call) -> Case {
+    let counts = Counts { places: 0, first: 0, confirmed: 0, unconfirmed: 0 };
     let lent = Lent { records: Vec::new(), row: None, area: None };
+    let settings =
+        Settings { tset: 0, tqui: 0, min_tsdr: 0, max_tsdr: 0, ttd: 0, ttr: 0, retry_limit: 0, tsdi: 0 };
+    let core = Core {
+        settings,
+        acceptance: 0,
+        before: 0,
+        ts: 0,
+        ps: 0,
+        stranger: 0,
+        phase: 0,
+        served: 0,
+        sendings: 0,
+        sdn: 0,
+        begun: 0,
+        high: counts.clone(),
+        low: counts,
+        source: 0,
+        bit: 0,
+        length: 0,
+    };
     Case {
         call,
-        core: blank_core(),
+        core,
         masters: [0; 127],
         started: [0; 127],
         marks: [0; 127],
@@ -257,6 +353,11 @@ pub fn blank(call: Call) -> Case {
         data: None,
         places: [0; 2],
     }
+}
+
+fn settings_word(settings: &Settings) -> String {
+    let Settings { tset, tqui, min_tsdr, max_tsdr, ttd, ttr, retry_limit, tsdi } = settings;
+    format!("{tset},{tqui},{min_tsdr},{max_tsdr},{ttd},{ttr},{retry_limit},{tsdi}")
 }
 
 fn count_word(count: Count) -> String {
@@ -276,6 +377,43 @@ fn list_word(octets: &[u8]) -> String {
     let others = octets.iter().enumerate().filter(|(_, &octet)| octet != most);
     let others = others.map(|(place, octet)| format!(",{place}={octet}"));
     std::iter::once(most.to_string()).chain(others).collect()
+}
+
+fn number<T: FromStr>(word: &str) -> Result<T, String> {
+    word.parse().map_err(|_| format!("no such number: {word}"))
+}
+
+fn next<'a, T: FromStr>(words: &mut impl Iterator<Item = &'a str>) -> Result<T, String> {
+    number(words.next().ok_or("too few words")?)
+}
+
+fn all_read<'a, T>(mut words: impl Iterator<Item = &'a str>, read: T) -> Result<T, String> {
+    match words.next() {
+        None => Ok(read),
+        Some(word) => Err(format!("too many words: {word}")),
+    }
+}
+
+fn read_settings<'a>(numbers: &mut impl Iterator<Item = &'a str>) -> Result<Settings, String> {
+    Ok(Settings {
+        tset: next(numbers)?,
+        tqui: next(numbers)?,
+        min_tsdr: next(numbers)?,
+        max_tsdr: next(numbers)?,
+        ttd: next(numbers)?,
+        ttr: next(numbers)?,
+        retry_limit: next(numbers)?,
+        tsdi: next(numbers)?,
+    })
+}
+
+fn read_counts<'a>(numbers: &mut impl Iterator<Item = &'a str>) -> Result<Counts, String> {
+    Ok(Counts {
+        places: next(numbers)?,
+        first: next(numbers)?,
+        confirmed: next(numbers)?,
+        unconfirmed: next(numbers)?,
+    })
 }
 
 fn read_count(word: &str) -> Result<Count, String> {

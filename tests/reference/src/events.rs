@@ -12,12 +12,6 @@ pub enum Event {
     TokenFromNext,
     TokenFromSelf,
     TokenToOther,
-    /// The next token of the ring that is listened to.
-    TokenOfBus,
-    TokenFromOwn,
-    RequestFromOwn,
-    ReplyFromOwn,
-    Status,
     Request,
     RequestToOther,
     Plausible,
@@ -27,7 +21,6 @@ pub enum Event {
     Damaged,
     Slot,
     Sent,
-    Reset,
 }
 
 use Event::*;
@@ -71,7 +64,6 @@ const SDN: &[(usize, Event)] = &[
     (3, Short),
     (3, Damaged),
     (3, Reply),
-    (2, Reset),
 ];
 const CHECK: &[(usize, Event)] = &[
     (30, TokenFromPrevious),
@@ -98,90 +90,8 @@ const CHECK_SILENT: &[(usize, Event)] = &[
 const ALONE: &[(usize, Event)] =
     &[(80, Sent), (6, Slot), (4, TokenFromStranger), (4, Request), (3, Damaged), (3, TokenFromSelf)];
 
-const LISTENING: &[(usize, Event)] = &[
-    (240, TokenOfBus),
-    (2, TokenFromOwn),
-    (2, RequestFromOwn),
-    (2, ReplyFromOwn),
-    (12, Status),
-    (20, Request),
-    (4, RequestToOther),
-    (6, Reply),
-    (4, Short),
-    (10, Damaged),
-    (3, TokenFromStranger),
-    (4, Sent),
-    (3, Slot),
-    (1, Reset),
-];
-/// Another station has the same address.
-const LISTENING_TWIN: &[(usize, Event)] = &[
-    (60, TokenOfBus),
-    (2, TokenFromOwn),
-    (2, TokenFromSelf),
-    (3, RequestFromOwn),
-    (3, ReplyFromOwn),
-    (2, Status),
-    (2, Request),
-    (2, Reset),
-];
-/// Little happens but tokens, so that the ring can change while the station is ready.
-const CALM: &[(usize, Event)] = &[
-    (300, TokenOfBus),
-    (4, TokenFromStranger),
-    (2, Status),
-    (2, Request),
-    (1, Damaged),
-    (1, Short),
-    (1, Slot),
-    (1, Reset),
-];
-const READY: &[(usize, Event)] = &[
-    (120, TokenOfBus),
-    (2, TokenFromPrevious),
-    (10, TokenFromStranger),
-    (4, TokenFromMaster),
-    (2, TokenFromNext),
-    (2, TokenFromOwn),
-    (2, RequestFromOwn),
-    (2, ReplyFromOwn),
-    (8, Status),
-    (14, Request),
-    (3, RequestToOther),
-    (4, Reply),
-    (3, Short),
-    (6, Damaged),
-    (4, Sent),
-    (4, Slot),
-    (2, Reset),
-];
-const STOPPED: &[(usize, Event)] = &[
-    (10, TokenOfBus),
-    (4, TokenFromPrevious),
-    (4, TokenFromStranger),
-    (4, TokenFromSelf),
-    (4, RequestFromOwn),
-    (8, Status),
-    (8, Request),
-    (4, Reply),
-    (4, Short),
-    (6, Damaged),
-    (12, Sent),
-    (12, Slot),
-    (20, Reset),
-];
-
-/// What a station's neighbours are like: they seldom answer; one has the station's address; they only pass the token.
-#[derive(Clone, Copy)]
-pub struct Mood {
-    pub silent: bool,
-    pub twin: bool,
-    pub calm: bool,
-}
-
 /// An event that is likely in a phase.
-pub fn event(random: &mut Random, phase: &Phase, mood: Mood) -> Event {
-    let Mood { silent, twin, calm } = mood;
+pub fn event(random: &mut Random, phase: &Phase, silent: bool) -> Event {
     random.weighted(match phase {
         Phase::Idle => IDLE,
         Phase::ReplyAwaited(_) if silent => AWAITED_SILENT,
@@ -190,10 +100,5 @@ pub fn event(random: &mut Random, phase: &Phase, mood: Mood) -> Event {
         Phase::PassChecked(_) if silent => CHECK_SILENT,
         Phase::PassChecked(_) => CHECK,
         Phase::PassToSelf => ALONE,
-        Phase::Listening | Phase::Ready if calm => CALM,
-        Phase::Listening | Phase::Ready if twin => LISTENING_TWIN,
-        Phase::Listening => LISTENING,
-        Phase::Ready => READY,
-        Phase::Stopped => STOPPED,
     })
 }

@@ -1,13 +1,11 @@
 //! The script of forged cases: a station in rule in each phase, with queues of every fill, and then up to two things
-//! of it broken. What a lawful state may hold besides is forged too: any marks, counts of sendings and free records,
-//! and whatever a station learns by.
+//! of it broken. What a lawful state may hold besides is forged too: any marks, counts of sendings and free records.
 
 use crate::breaks;
-use crate::cases::{blank, Addresses, Call, Case, Lent, CALLS, SDA, SDN, SRD};
-use crate::cores::{Core, Counts, NOBODY};
-use crate::cores::{LISTENING, PASS_CHECKED, PASS_TO_SELF, READY, REPLY_AWAITED, SDN_GOING_OUT, STOPPED};
+use crate::cases::{blank, Addresses, Call, Case, Core, Counts, Lent, CALLS, NOBODY, SDA, SDN, SRD};
+use crate::cases::{PASS_CHECKED, PASS_TO_SELF, REPLY_AWAITED, SDN_GOING_OUT};
 use crate::draft;
-use crate::frame::{ANNOUNCED, SHORT, TOKEN};
+use crate::frame::{SHORT, TOKEN};
 use crate::lends;
 use crate::peers;
 use crate::queue::Priority;
@@ -37,9 +35,6 @@ fn case(random: &mut Random) -> Case {
 fn lawful(random: &mut Random, call: Call) -> Case {
     let mut case = blank(call);
     core(&mut case.core, random);
-    if let Call::Collect(_) = call {
-        case.core.phase = random.pick(&[case.core.phase, case.core.phase, STOPPED]);
-    }
     sets(&mut case, random);
     case.core.ps = random.pick(&Ring::of(&members(&case.masters)).masters());
     if random.one_in(4) {
@@ -60,7 +55,7 @@ fn core(core: &mut Core, random: &mut Random) {
     core.settings = starts::settings(random);
     (core.acceptance, core.before) = (clock(random), clock(random));
     core.stranger = someone(random);
-    core.phase = random.below(usize::from(STOPPED)) as u8;
+    core.phase = random.below(5) as u8;
     core.served = random.below(2) as u8;
     core.sendings = random.pick(&[0, 1, 1, 2, 3, 4, 15, 16, 17, 255]);
     core.sdn = random.below(2) as u8;
@@ -68,18 +63,6 @@ fn core(core: &mut Core, random: &mut Random) {
     core.source = someone(random);
     core.bit = random.below(2) as u8;
     core.length = random.pick(&[0, 1, 6, 100, 254, 255]);
-    (core.listens, core.own) = (random.below(2) as u8, random.below(2) as u8);
-    core.learned = learned(random);
-}
-
-/// What a station learns by: numbers that fit a ring, or any.
-fn learned(random: &mut Random) -> [u8; 4] {
-    if random.one_in(2) {
-        return std::array::from_fn(|_| random.octet());
-    }
-    let size = random.below(6) as u8;
-    let run = (2 * size + random.below(3) as u8).saturating_sub(1);
-    [someone(random), someone(random), random.pick(&[size, size, 126, 127, 128, 255]), run]
 }
 
 /// A clock, at times near its wrap.
@@ -112,9 +95,6 @@ fn sets(case: &mut Case, random: &mut Random) {
         _ => {}
     }
     case.masters = set(&masters, random);
-    if matches!(case.core.phase, LISTENING | READY) && random.one_in(2) {
-        row(case, random);
-    }
     (case.marks, case.points) = (list(random), list(random));
 }
 
@@ -126,16 +106,6 @@ fn list<const COUNT: usize>(random: &mut Random) -> [u8; COUNT] {
         octets[random.below(COUNT)] = random.pick(&[0, 1, 2, any]);
     }
     octets
-}
-
-/// A row that is learned, in the set as started: p + 1 for the pth station, at times one twice or one left out.
-fn row(case: &mut Case, random: &mut Random) {
-    case.started = [0; 127];
-    for place in 1..=case.core.learned[2].min(6) {
-        let place = if random.one_in(12) { random.octet() } else { place + 1 };
-        case.started[usize::from(peers::address(random))] = place;
-    }
-    case.started[usize::from(case.core.ts)] = 1;
 }
 
 /// A set of octets: 1 for each master, and at times others that are neither 0 nor 1, which mean as little as 0.
@@ -233,30 +203,17 @@ fn buffers(case: &mut Case, random: &mut Random) {
 
 /// Octets to hear: frames for this station and others, bad ones, none.
 fn heard(case: &Case, random: &mut Random) -> Vec<u8> {
-    let ts = case.core.ts;
-    match random.below(8) {
-        0 => token(case, random),
+    match random.below(6) {
+        0 => vec![TOKEN, case.core.ts, random.pick(&[case.core.ps, case.core.stranger])],
         1 => vec![SHORT],
         2 => draft::noise(random),
         3 => draft::faulty(random),
-        4 => peers::status_to(random, ts, &[case.core.ps, 0, 126]),
-        drawn => {
+        _ => {
             let mut frame = draft::Draft::lawful(random, 40);
-            if drawn == 5 {
-                frame.sa = frame.sa & ANNOUNCED | ts;
-            } else {
-                frame.da = frame.da & ANNOUNCED | ts;
-            }
+            frame.da = frame.da & 0x80 | case.core.ts;
             frame.octets()
         }
     }
-}
-
-/// A token of someone that the station knows, to itself or to someone else.
-fn token(case: &Case, random: &mut Random) -> Vec<u8> {
-    let Core { ts, ps, stranger, learned: [sender, holder, ..], .. } = case.core;
-    let destination = random.pick(&[ts, ts, ts, sender, holder]);
-    vec![TOKEN, destination, random.pick(&[ps, ps, stranger, holder, sender, ts])]
 }
 
 /// A request that submit takes. If it asks for the station's limit it may name any.

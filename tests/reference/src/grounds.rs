@@ -12,10 +12,8 @@ use crate::refusal::{grounds, Ground};
 /// Which calls can meet a ground or a pair of numbers.
 type Meets = fn(Call) -> bool;
 
-const STARTS: Meets = Call::is_start;
-const HAS_SET: Meets = |call| call == Call::Start;
-const HAS_STATE: Meets = |call| !call.is_start();
-const RUNS: Meets = Call::needs_running;
+const STARTS: Meets = |call| call == Call::Start;
+const HAS_STATE: Meets = |call| call != Call::Start;
 const TURNS: Meets = Call::is_turn;
 const HEARS: Meets = |call| call == Call::Hear;
 const SUBMITS: Meets = |call| matches!(call, Call::Submit(_));
@@ -24,18 +22,17 @@ const ONE_ROW: Meets = |call| matches!(call, Call::Submit(_) | Call::Collect(_))
 const ANY: Meets = |_| true;
 
 /// Each ground and the calls that can meet it.
-const POSSIBLE: [(Meets, Ground); 48] = [
+const POSSIBLE: [(Meets, Ground); 45] = [
     (STARTS, (20, "setting out of range")),
     (STARTS, (20, "TSL over 65535")),
     (STARTS, (20, "TS over 126")),
-    (HAS_SET, (20, "TS not in the set")),
+    (STARTS, (20, "TS not in the set")),
     (ANY, (21, "row length 0 or over 64")),
     (HAS_STATE, (21, "row not as started")),
     (HAS_STATE, (21, "data not 246 a place")),
     (TURNS, (22, "output under 255")),
     (HEARS, (22, "high update over 244")),
     (HEARS, (22, "low update over 244")),
-    (RUNS, (31, "stopped")),
     (HAS_STATE, (29, "setting out of range")),
     (HAS_STATE, (29, "TSL over 65535")),
     (HAS_STATE, (29, "TS over 126")),
@@ -49,8 +46,6 @@ const POSSIBLE: [(Meets, Ground); 48] = [
     (HAS_STATE, (29, "no queue")),
     (HAS_STATE, (29, "neither an SDN nor not")),
     (HAS_STATE, (29, "no bit")),
-    (HAS_STATE, (29, "neither started by listening nor not")),
-    (HAS_STATE, (29, "own address neither heard nor not")),
     (ONE_ROW, (29, "a row over 64 that is not lent")),
     (HAS_STATE, (29, "turn beyond the row")),
     (HAS_STATE, (29, "counts above the row")),
@@ -78,20 +73,11 @@ const POSSIBLE: [(Meets, Ground); 48] = [
 const ACCEPTED: Ground = (0, "accepted");
 
 /// Numbers that one case can have grounds for, the one to be given first.
-const ORDER: [(Meets, Refusal, Refusal); 36] = [
+const ORDER: [(Meets, Refusal, Refusal); 27] = [
     (STARTS, 20, 21),
     (TURNS, 21, 22),
     (HAS_STATE, 21, 29),
     (TURNS, 22, 29),
-    (RUNS, 21, 31),
-    (TURNS, 22, 31),
-    (RUNS, 31, 29),
-    (SUBMITS, 31, 23),
-    (SUBMITS, 31, 24),
-    (SUBMITS, 31, 25),
-    (SUBMITS, 31, 26),
-    (SUBMITS, 31, 30),
-    (SUBMITS, 31, 27),
     (SUBMITS, 21, 23),
     (SUBMITS, 21, 24),
     (SUBMITS, 21, 25),

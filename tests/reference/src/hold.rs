@@ -7,7 +7,7 @@ use crate::times::elapsed;
 use crate::transitions::{note, note_each, Transition};
 
 impl Station {
-    /// Idle and Ready: a token to TS. From PS it begins a hold; from another station the second in a row does.
+    /// Idle: a token to TS. From PS it begins a hold; from another station the second in a row does.
     pub fn token_heard(&mut self, source: u8, clock: u32) -> Outcome {
         if source == self.address {
             note(if self.first_token.is_some() { Transition::IdleOwnBetween } else { Transition::IdleOwn });
@@ -15,29 +15,17 @@ impl Station {
         }
         if source == self.previous {
             let pair_broken = self.first_token.is_some();
-            note(if pair_broken {
-                self.by_stage(Transition::IdlePsBetween, Transition::ReadyPsBetween)
-            } else {
-                self.by_stage(Transition::IdleTokenFromPs, Transition::ReadyTokenFromPs)
-            });
+            note(if pair_broken { Transition::IdlePsBetween } else { Transition::IdleTokenFromPs });
             return Outcome::send(self.begin_hold(clock));
         }
         if self.first_token == Some(source) {
             let known = self.ring.contains(source);
-            note(if known {
-                self.by_stage(Transition::IdleSecondOfMaster, Transition::ReadySecondOfMaster)
-            } else {
-                self.by_stage(Transition::IdleSecondOfStranger, Transition::ReadySecondOfStranger)
-            });
+            note(if known { Transition::IdleSecondOfMaster } else { Transition::IdleSecondOfStranger });
             self.previous = source;
             self.ring.enter(source);
             return Outcome::send(self.begin_hold(clock));
         }
-        note(if self.first_token.is_some() {
-            self.by_stage(Transition::IdleThird, Transition::ReadyThird)
-        } else {
-            self.by_stage(Transition::IdleFirst, Transition::ReadyFirst)
-        });
+        note(if self.first_token.is_some() { Transition::IdleThird } else { Transition::IdleFirst });
         self.first_token = Some(source);
         Outcome::nothing()
     }

@@ -1,26 +1,21 @@
 //! What a forged case may hold and yet not be refused for: bounds that are just kept, numbers that the table does not
 //! name (reading 27), and records that the call does not judge. A library that refused them would refuse too much.
 
-use crate::cases::{Call, Case, SDN};
-use crate::cores::{Counts, LISTENING, NOBODY, PASS_CHECKED, READY, REPLY_AWAITED, SDN_GOING_OUT, STOPPED};
-use crate::frame::{self, Head, Message, LAST_DESTINATION_POINT};
+use crate::cases::{Call, Case, Counts, NOBODY, PASS_CHECKED, REPLY_AWAITED, SDN, SDN_GOING_OUT};
 use crate::queue::{Priority, MOST_RETRIES};
 use crate::refusal::{as_sent, in_use, judge, members, record_at, served, QUEUES};
 use crate::rows::{Record, ASKS, LIMIT, RECORD, STATUSES};
 
-/// FC of an FDL status request.
-const STATUS_REQUEST: u8 = 0x49;
-
 /// Its words, which calls can be accepted with it, and whether a case has it.
 pub type Oddity = (&'static str, fn(Call) -> bool, fn(&Case) -> bool);
 
-pub const ODDITIES: [Oddity; 52] = [
+pub const ODDITIES: [Oddity; 35] = [
     ("TSL of 65534 or 65535", any, |case| case.core.settings.tsl() >= 65_534),
     ("a retry limit of 15", any, |case| case.core.settings.retry_limit == 15),
     ("Tid1 over Tid2", any, |case| case.core.settings.tid1() > case.core.settings.tid2()),
     ("TS 126", any, |case| case.core.ts == 126),
-    ("TS alone in the set", with_set, |case| members(&case.masters) == [case.core.ts]),
-    ("a set with octets over 1", with_set, |case| case.masters.iter().any(|&octet| octet > 1)),
+    ("TS alone in the set", any, |case| members(&case.masters) == [case.core.ts]),
+    ("a set with octets over 1", any, |case| case.masters.iter().any(|&octet| octet > 1)),
     ("points with octets over 1", any, |case| case.points.iter().any(|&octet| octet > 1)),
     ("a set as started with octets over 1", stated, |case| case.started.iter().any(|&octet| octet > 1)),
     ("PS not in the set", stated, |case| !members(&case.masters).contains(&case.core.ps)),
@@ -84,86 +79,14 @@ pub const ODDITIES: [Oddity; 52] = [
     ("a request that asks and types a limit over 15", submits, |case| {
         case.request[LIMIT] > MOST_RETRIES && case.request[ASKS] != 0
     }),
-    ("a station in Listening", stated, |case| case.core.phase == LISTENING),
-    ("a station in Ready", stated, |case| case.core.phase == READY),
-    ("a station that stopped", collects, |case| case.core.phase == STOPPED),
-    ("a station outside the ring, started with a set", stated, |case| {
-        is_outside(case) && case.core.listens == 0
-    }),
-    ("a station in the ring, started by listening", stated, |case| {
-        !is_outside(case) && case.core.listens == 1
-    }),
-    ("an own address heard, in the ring", stated, |case| !is_outside(case) && case.core.own == 1),
-    ("other masters in Listening", stated, |case| {
-        case.core.phase == LISTENING && members(&case.masters).len() > 1
-    }),
-    ("TS alone in Ready", stated, |case| {
-        case.core.phase == READY && members(&case.masters) == [case.core.ts]
-    }),
-    ("a sender over 127", stated, |case| case.core.learned[0] > NOBODY),
-    ("a holder over 127", stated, |case| case.core.learned[1] > NOBODY),
-    ("a size over 127", stated, |case| case.core.learned[2] > NOBODY),
-    ("a run of 0 or 255", stated, |case| matches!(case.core.learned[3], 0 | 255)),
-    ("an own address heard first", hears, |case| is_outside(case) && case.core.own == 0 && is_from_own(case)),
-    ("an own address heard again", hears, |case| is_outside(case) && case.core.own == 1 && is_from_own(case)),
-    ("FDL status asked outside the ring", hears, |case| {
-        is_outside(case)
-            && matches!(frame::read(&case.heard), Ok(Message::Frame { head, .. }) if asks_status(case, &head))
-    }),
-    ("a token of another in Listening", hears, |case| case.core.phase == LISTENING && token(case).is_some()),
-    ("a token of another in Ready to TS", hears, |case| {
-        case.core.phase == READY && token(case) == Some(case.core.ts)
-    }),
 ];
-
-/// In Listening or Ready.
-fn is_outside(case: &Case) -> bool {
-    matches!(case.core.phase, LISTENING | READY)
-}
-
-/// The DA of a token of another that is heard.
-fn token(case: &Case) -> Option<u8> {
-    match frame::read(&case.heard) {
-        Ok(Message::Token { destination, source }) if source != case.core.ts => Some(destination),
-        _ => None,
-    }
-}
-
-/// Whether the frame heard has SA = TS.
-fn is_from_own(case: &Case) -> bool {
-    match frame::read(&case.heard) {
-        Ok(Message::Token { source, .. }) => source == case.core.ts,
-        Ok(Message::Frame { head, .. }) => head.source == case.core.ts,
-        _ => false,
-    }
-}
-
-/// Whether a frame is an FDL status that is answered.
-fn asks_status(case: &Case, head: &Head) -> bool {
-    head.control == STATUS_REQUEST
-        && head.destination == case.core.ts
-        && head.source != case.core.ts
-        && head.to != Some(LAST_DESTINATION_POINT)
-}
 
 fn any(_: Call) -> bool {
     true
 }
 
-fn with_set(call: Call) -> bool {
-    call != Call::Listen
-}
-
 fn stated(call: Call) -> bool {
-    !call.is_start()
-}
-
-fn hears(call: Call) -> bool {
-    call == Call::Hear
-}
-
-fn collects(call: Call) -> bool {
-    matches!(call, Call::Collect(_))
+    call != Call::Start
 }
 
 fn submits(call: Call) -> bool {

@@ -122,34 +122,6 @@ fn asked_point(random: &mut Random, station: &Station) -> Option<u8> {
     }
 }
 
-/// A request that the station `own` might have sent, to anyone; at times FDL status to itself.
-pub fn own_request(random: &mut Random, own: u8) -> Vec<u8> {
-    let asks_itself = random.one_in(4);
-    let code = if asks_itself { 9 } else { random.weighted(&SERVICE_CODES) };
-    let destination = if asks_itself { own } else { address(random) };
-    let from = random.one_in(3).then(|| random.below(63) as u8);
-    let head = Head { destination, to: None, source: own, from, control: REQUEST | code };
-    let data = data(random, &head, 0);
-    written(|out| frame::write(&head, &data, out))
-}
-
-/// A reply that the station `own` might have sent, to anyone, of any station type.
-pub fn own_reply(random: &mut Random, own: u8) -> Vec<u8> {
-    let control = random.pick(&[0x00, 0x10, 0x20, 0x30]) | random.pick(&[0, 1, 2, 3, 8, 9, 10, 12, 13]);
-    let to = random.one_in(3).then(|| random.below(63) as u8);
-    let head = Head { destination: address(random), to, source: own, from: None, control };
-    let data = data(random, &head, 0);
-    written(|out| frame::write(&head, &data, out))
-}
-
-/// FDL status to the station: mostly plain, with access points, or to 63.
-pub fn status_to(random: &mut Random, own: u8, peers: &[u8]) -> Vec<u8> {
-    let to = random.pick(&[None, None, None, Some(0), Some(62), Some(63)]);
-    let from = random.one_in(3).then(|| random.below(63) as u8);
-    let head = Head { destination: own, to, source: random.pick(peers), from, control: REQUEST | 9 };
-    written(|out| frame::write(&head, &[], out))
-}
-
 /// A lawful request from anyone to anyone but the station.
 pub fn request_to_other(random: &mut Random, own: u8) -> Vec<u8> {
     let code = random.weighted(&SERVICE_CODES);

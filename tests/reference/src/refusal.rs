@@ -1,9 +1,8 @@
-//! Which refusal of document 01's table, with document 02's 30 and 31, a forged case meets: every ground that holds, in
-//! the order of reading 24, of which the first gives the number. A later ground is looked for only where what it reads
-//! can be read.
+//! Which refusal of document 01's table a forged case meets: every ground that holds, in the order of reading 24, of
+//! which the first gives the number. A later ground is looked for only where what it reads can be read.
 
-use crate::cases::{Addresses, Call, Case, Count, SDN};
-use crate::cores::{Counts, NOBODY, PASS_CHECKED, PASS_TO_SELF, REPLY_AWAITED, SDN_GOING_OUT, STOPPED};
+use crate::cases::{Addresses, Call, Case, Count, Counts};
+use crate::cases::{NOBODY, PASS_CHECKED, PASS_TO_SELF, REPLY_AWAITED, SDN, SDN_GOING_OUT};
 use crate::queue::{Priority, Refusal, Request, LONGEST_ROW};
 use crate::ring::{Ring, ADDRESSES};
 use crate::rows::{Record, DATA, RECORD, STATUSES, UNTOUCHED};
@@ -26,7 +25,7 @@ pub fn answer(case: &Case) -> String {
 /// Every ground, in order.
 pub fn grounds(case: &Case) -> Vec<Ground> {
     let mut grounds = Vec::new();
-    if case.call.is_start() {
+    if case.call == Call::Start {
         start(case, 20, &mut grounds);
         let unlawful = |&&places: &&u64| !(1..=u64::from(LONGEST_ROW)).contains(&places);
         grounds.extend(case.places.iter().filter(unlawful).map(|_| (21, "row length 0 or over 64")));
@@ -34,13 +33,12 @@ pub fn grounds(case: &Case) -> Vec<Ground> {
     }
     rows_lent(case, &mut grounds);
     buffers(case, &mut grounds);
-    add(&mut grounds, case.call.needs_running() && case.core.phase == STOPPED, 31, "stopped");
     state(case, &mut grounds);
     match case.call {
         Call::Submit(queue) => submit(case, queue, &mut grounds),
         Call::Collect(queue) => collect(case, queue, &mut grounds),
         Call::Hear | Call::Sent | Call::Slot => records(case, &mut grounds),
-        Call::Reset | Call::Start | Call::Listen => {}
+        Call::Reset | Call::Start => {}
     }
     grounds
 }
@@ -52,13 +50,13 @@ fn add(grounds: &mut Vec<Ground>, holds: bool, number: Refusal, words: &'static 
     }
 }
 
-/// What start refuses in settings, TS and set: 20, and in a state 29. A start by listening has no set.
+/// What start refuses in settings, TS and set: 20, and in a state 29.
 fn start(case: &Case, number: Refusal, grounds: &mut Vec<Ground>) {
     let settings = &case.core.settings;
     add(grounds, !settings.in_range(), number, "setting out of range");
     add(grounds, settings.in_range() && !settings.in_rule(), number, "TSL over 65535");
     add(grounds, case.core.ts >= ADDRESSES, number, "TS over 126");
-    add(grounds, case.call != Call::Listen && is_missing(case, &case.masters), number, "TS not in the set");
+    add(grounds, is_missing(case, &case.masters), number, "TS not in the set");
 }
 
 /// Whether TS is an address that a set does not have.
@@ -103,12 +101,10 @@ fn state(case: &Case, grounds: &mut Vec<Ground>) {
     add(grounds, core.stranger > NOBODY, 29, "stranger over 126");
     add(grounds, core.source > NOBODY, 29, "remembered sender over 126");
     add(grounds, core.length > LONGEST_REPLY, 29, "remembered reply over 255");
-    add(grounds, core.phase > STOPPED, 29, "no phase");
+    add(grounds, core.phase > PASS_TO_SELF, 29, "no phase");
     add(grounds, core.served > 1, 29, "no queue");
     add(grounds, core.sdn > 1, 29, "neither an SDN nor not");
     add(grounds, core.bit > 1, 29, "no bit");
-    add(grounds, core.listens > 1, 29, "neither started by listening nor not");
-    add(grounds, core.own > 1, 29, "own address neither heard nor not");
     for queue in QUEUES {
         counts(core.counts(queue), case.call.lends(queue), grounds);
     }
@@ -223,8 +219,7 @@ pub fn as_sent(record: &Record) -> Request {
 #[cfg(test)]
 mod tests {
     use super::*;
-    use crate::cases::{blank, Lent, CALLS};
-    use crate::cores::{Core, LISTENING, READY};
+    use crate::cases::{blank, Core, Lent, CALLS};
     use crate::rows::{ASKS, LIMIT};
     use crate::times::STANDARD;
 
@@ -276,44 +271,6 @@ mod tests {
         assert_eq!(answers(Call::Submit(Priority::Low), all), [29, 23, 30]);
         assert_eq!(answers(Call::Collect(Priority::Low), all), [29, 28]);
         assert_eq!(answers(Call::Start, |case| (case.core.ts, case.places[1]) = (3, 0)), [20, 21]);
-        assert_eq!(answers(Call::Listen, |case| (case.core.ts, case.places[1]) = (127, 0)), [20, 21]);
-        assert_eq!(answers(Call::Listen, |case| case.core.ts = 3), []);
-    }
-
-    /// 31 stands behind 22 and before 29, and is not given by collect.
-    #[test]
-    fn a_stopped_station() {
-        let all: fn(&mut Case) = |case| {
-            (case.core.ps, case.high.row, case.out) = (127, Some(25), Some(254));
-            (case.request[1], case.core.phase) = (128, STOPPED);
-        };
-        for (call, _) in CALLS {
-            let expected = match call {
-                Call::Hear | Call::Sent | Call::Slot => vec![21, 22, 31, 29],
-                Call::Reset => vec![21, 31, 29],
-                Call::Submit(Priority::High) => vec![21, 31, 29, 23],
-                Call::Submit(Priority::Low) => vec![31, 29, 23],
-                Call::Collect(Priority::High) => vec![21, 29, 28],
-                Call::Collect(Priority::Low) => vec![29, 28],
-                Call::Start | Call::Listen => vec![],
-            };
-            assert_eq!(answers(call, all), expected);
-        }
-    }
-
-    /// Stages are at odds with nothing, and what is learned may be any numbers; listens and own are 0 or 1.
-    #[test]
-    fn stages_and_what_they_learn() {
-        let ready: fn(&mut Case) = |case| (case.core.phase, case.core.learned) = (READY, [255; 4]);
-        let alone: fn(&mut Case) = |case| (case.core.phase, case.masters[5]) = (LISTENING, 0);
-        let empty: fn(&mut Case) = |case| (case.core.phase, case.core.high.unconfirmed) = (READY, 0);
-        for change in [ready, alone, empty] {
-            assert_eq!(answers(Call::Hear, change), []);
-        }
-        assert_eq!(answers(Call::Slot, |case| case.core.listens = 2), [29]);
-        assert_eq!(answers(Call::Reset, |case| (case.core.listens, case.core.own) = (1, 255)), [29]);
-        assert_eq!(answers(Call::Reset, |case| (case.core.listens, case.core.own) = (0, 1)), []);
-        assert_eq!(answers(Call::Reset, |case| case.core.phase = STOPPED + 1), [29]);
     }
 
     #[test]

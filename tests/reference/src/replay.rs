@@ -66,9 +66,12 @@ fn run_on(station: &mut Station, call: Call) -> String {
             let heard = Heard { clock, room, high: &high, low: &low, octets: &octets };
             say(station.frame(&heard), say_outcome)
         }
-        Call::Sent(clock) => say(station.sent(clock), say_outcome),
-        Call::Slot(clock) => say(station.slot(clock), say_outcome),
-        Call::Reset => say(station.reset(), |()| "ok".to_string()),
+        Call::Sent(clock) => say_outcome(station.sent(clock)),
+        Call::Slot(clock) => say_outcome(station.slot(clock)),
+        Call::Reset => {
+            station.reset();
+            "ok".to_string()
+        }
         Call::Collect(priority) => say(station.collect(priority), say_confirmed),
         Call::Show => say_station(station),
     }
@@ -88,9 +91,6 @@ fn say_outcome(outcome: Outcome) -> String {
     }
     if let Some(indication) = outcome.indication {
         text.push_str(&say_indication(&indication));
-    }
-    if outcome.stopped {
-        text.push_str(" stopped");
     }
     text
 }
@@ -129,35 +129,26 @@ fn say_confirmed(confirmed: Confirmed) -> String {
 }
 
 fn say_station(station: &Station) -> String {
-    let (phase, shown) = match station.phase {
-        Phase::Idle => ("idle", Transition::LineShow),
-        Phase::ReplyAwaited(_) => ("awaited", Transition::LineShow),
-        Phase::SdnGoingOut(_) => ("sdn", Transition::LineShow),
-        Phase::PassChecked(_) => ("check", Transition::LineShow),
-        Phase::PassToSelf => ("self", Transition::LineShow),
-        Phase::Listening => ("listen", Transition::LineShowListen),
-        Phase::Ready => ("ready", Transition::LineShowReady),
-        Phase::Stopped => ("stopped", Transition::LineShowStopped),
+    note(Transition::LineShow);
+    let phase = match station.phase {
+        Phase::Idle => "idle",
+        Phase::ReplyAwaited(_) => "awaited",
+        Phase::SdnGoingOut(_) => "sdn",
+        Phase::PassChecked(_) => "check",
+        Phase::PassToSelf => "self",
     };
-    note(shown);
+    let masters: Vec<String> = station.ring.masters().iter().map(u8::to_string).collect();
     format!(
-        "ok {phase} {} {} {} {} {} {}",
+        "ok {phase} {} {} {} {} {} {} {} {}",
         station.address,
-        say_set(station),
+        station.previous,
+        station.next(),
+        masters.join(","),
         station.high.confirmed_count(),
         station.high.unconfirmed_count(),
         station.low.confirmed_count(),
         station.low.unconfirmed_count()
     )
-}
-
-/// PS, NS and MASTERS, each `-` while the set is absent.
-fn say_set(station: &Station) -> String {
-    if station.is_set_absent() {
-        return "- - -".to_string();
-    }
-    let masters: Vec<String> = station.ring.masters().iter().map(u8::to_string).collect();
-    format!("{} {} {}", station.previous, station.next(), masters.join(","))
 }
 
 pub fn priority_word(priority: Priority) -> &'static str {

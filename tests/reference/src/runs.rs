@@ -1,9 +1,8 @@
 //! Seeded runs of whole stations as a replay script. The reference station is driven along, so that the other
 //! stations can answer what it sends and deep states are common.
 
-use crate::bus::Bus;
 use crate::draft::{data_count, Draft};
-use crate::events::{event, Event, Mood};
+use crate::events::{event, Event};
 use crate::frame::{ALL_STATIONS, REQUEST, SHORT};
 use crate::nonsense;
 use crate::peers;
@@ -20,43 +19,33 @@ struct Life {
     steps: usize,
     submits: usize,
     collects: usize,
-    mood: Mood,
+    silent: bool,
     peers: Vec<u8>,
     strangers: Vec<u8>,
-    /// The ring that a station listens to.
-    bus: Bus,
     step: u32,
     room: usize,
     updates: usize,
 }
 
 impl Life {
-    fn new(random: &mut Random, own: u8, ttr: u32) -> Life {
+    fn new(random: &mut Random, ttr: u32) -> Life {
         let addresses = |random: &mut Random, count| (0..count).map(|_| peers::address(random)).collect();
         Life {
             steps: 30 + random.below(150),
             submits: random.pick(&[10, 20, 35, 50, 70]),
             collects: random.pick(&[3, 25, 50, 70]),
-            mood: Mood { silent: random.one_in(4), twin: random.one_in(4), calm: false },
+            silent: random.one_in(4),
             peers: addresses(random, 3),
             strangers: addresses(random, 2),
-            bus: Bus::new(random, own),
             step: random.pick(&[ttr / 200, ttr / 20, ttr / 20, ttr / 4, ttr, 3 * ttr]) + 1,
             room: random.pick(&[20, 70, 90]),
             updates: random.pick(&[10, 40, 80]),
         }
     }
 
-    /// A long life beside a ring that changes, of which a listening station hears little but tokens.
-    fn calm(random: &mut Random, own: u8, ttr: u32) -> Life {
-        let mut life = Life { steps: 250, submits: 5, collects: 3, ..Life::new(random, own, ttr) };
-        life.mood.calm = true;
-        life
-    }
-
     /// A life long and eager enough to fill a row of 64.
-    fn filling(random: &mut Random, own: u8, ttr: u32) -> Life {
-        Life { steps: 300, submits: 90, collects: 3, ..Life::new(random, own, ttr) }
+    fn filling(random: &mut Random, ttr: u32) -> Life {
+        Life { steps: 300, submits: 90, collects: 3, ..Life::new(random, ttr) }
     }
 }
 
@@ -71,17 +60,13 @@ struct Run {
 /// A script of at least `calls` lines.
 pub fn runs(seed: u64, calls: usize) -> Vec<String> {
     let mut random = Random::new(seed);
-    let life = Life::new(&mut random, 0, 0);
+    let life = Life::new(&mut random, 0);
     let mut run = Run { random, replay: Replay::default(), script: Vec::new(), clock: 0, life };
     run.before_start();
     while run.script.len() < calls {
         run.begin_life();
         for _ in 0..run.life.steps {
             run.step();
-            // A stopped station is left before long: only a start helps it.
-            if run.station().has_stopped() && run.random.one_in(16) {
-                break;
-            }
         }
         run.end_life();
     }
@@ -122,18 +107,11 @@ impl Run {
         }
         let start = starts::lawful(&mut self.random);
         self.say(start);
-        let (own, ttr) = (self.station().address, self.station().settings.ttr);
+        let ttr = self.station().settings.ttr;
         let longest =
             [Priority::High, Priority::Low].iter().any(|&row| self.station().queue(row).is_longest());
-        let listens = self.station().listener.is_some();
-        let life = if longest && self.random.one_in(8) {
-            Life::filling
-        } else if listens && self.random.one_in(4) {
-            Life::calm
-        } else {
-            Life::new
-        };
-        self.life = life(&mut self.random, own, ttr);
+        let filling = longest && self.random.one_in(8);
+        self.life = if filling { Life::filling } else { Life::new }(&mut self.random, ttr);
         let anything = self.random.below(1 << 32) as u32;
         let near_wrap = 0_u32.wrapping_sub(self.random.below(20 * ttr as usize) as u32);
         self.clock = self.random.pick(&[0, anything, near_wrap]);
@@ -199,11 +177,11 @@ impl Run {
 
     /// An event of the station's phase.
     fn event(&mut self) -> String {
+        let silent = self.life.silent;
         let phase = self.station().phase.clone();
-        let event = event(&mut self.random, &phase, self.life.mood);
+        let event = event(&mut self.random, &phase, silent);
         let clock = self.tick();
         let octets = match event {
-            Event::Reset => return "reset".to_string(),
             Event::Sent => return format!("sent {clock}"),
             Event::Slot => return format!("slot {clock}"),
             event => self.octets_of(event),
@@ -227,11 +205,6 @@ impl Run {
             (Event::TokenFromNext, _) => peers::token(own, station.next()),
             (Event::TokenFromSelf, _) => peers::token(own, own),
             (Event::TokenToOther, _) => peers::token((own + 1) % ALL_STATIONS, peers::address(random)),
-            (Event::TokenOfBus, _) => self.life.bus.token(random, own),
-            (Event::TokenFromOwn, _) => peers::token(peers::address(random), own),
-            (Event::RequestFromOwn, _) => peers::own_request(random, own),
-            (Event::ReplyFromOwn, _) => peers::own_reply(random, own),
-            (Event::Status, _) => peers::status_to(random, own, &self.life.peers),
             (Event::Request, _) => peers::request_to(random, station, &self.life.peers),
             (Event::RequestToOther, _) => peers::request_to_other(random, own),
             (Event::Plausible, Some(request)) => peers::plausible(random, request, own),

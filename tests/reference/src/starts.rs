@@ -25,7 +25,6 @@ fn draft(random: &mut Random) -> Draft {
         settings: settings(random),
         address: u32::from(address),
         masters,
-        listens: random.one_in(3),
         points: points(random),
         high: row(random),
         low: row(random),
@@ -38,8 +37,6 @@ struct Draft {
     settings: Settings,
     address: u32,
     masters: Vec<u8>,
-    /// Whether the set is left out, and learned by listening.
-    listens: bool,
     points: Vec<Option<u8>>,
     high: u8,
     low: u8,
@@ -51,7 +48,6 @@ impl Draft {
     fn line(&self) -> String {
         let s = &self.settings;
         let masters: Vec<String> = self.masters.iter().map(u8::to_string).collect();
-        let masters = if self.listens { "listen".to_string() } else { list(&masters) };
         let point = |point: &Option<u8>| point.map_or("none".to_string(), |point| point.to_string());
         let points: Vec<String> = self.points.iter().map(point).collect();
         let tsdi = if self.tsdi_said || s.tsdi != STANDARD.tsdi {
@@ -69,7 +65,7 @@ impl Draft {
             s.ttr,
             s.retry_limit,
             self.address,
-            masters,
+            list(&masters),
             list(&points),
             self.high,
             self.low
@@ -100,11 +96,8 @@ const FAULTS: [fn(&mut Draft, &mut Random); 17] = [
     |draft, random| draft.settings.ttd = longest_delay(&draft.settings) + 1 + random.pick(&[0, 0, 100]),
     |draft, random| draft.settings.tsdi = longest_initiator(&draft.settings) + 1 + random.pick(&[0, 0, 100]),
     |draft, random| draft.address = random.pick(&[127, 128, 255, 256, u32::MAX]),
-    |draft, _| {
-        draft.listens = false;
-        draft.masters.retain(|&master| u32::from(master) != draft.address);
-    },
-    |draft, _| (draft.listens, draft.masters) = (false, Vec::new()),
+    |draft, _| draft.masters.retain(|&master| u32::from(master) != draft.address),
+    |draft, _| draft.masters.clear(),
     |draft, random| draft.high = random.pick(&[0, 65, 255]),
     |draft, random| draft.low = random.pick(&[0, 65, 255]),
 ];

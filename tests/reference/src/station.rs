@@ -1,10 +1,9 @@
-//! The station of document 01, section "Station", with document 02's orders 2 and 6: its state, starts and calls.
-//! What a phase does with a call stands in hold, request, pass, answering and listening.
+//! The station of document 01, section "Station", with document 02's order 6: its state, its start and its calls.
+//! What a phase does with a call stands in hold, request, pass and answering.
 
 use std::collections::BTreeSet;
 
 use crate::frame::{self, Message, ALL_STATIONS, REQUEST};
-use crate::listening::Listener;
 use crate::queue::{
     Confirmed, Priority, Queue, Refusal, Request, Service, Status, LONGEST_ROW, MOST_RETRIES,
 };
@@ -21,8 +20,7 @@ pub type Points = BTreeSet<Option<u8>>;
 pub struct Start {
     pub settings: Settings,
     pub address: u32,
-    /// The set of masters; None where the station is to learn it by listening.
-    pub masters: Option<Vec<u8>>,
+    pub masters: Vec<u8>,
     pub points: Points,
     pub high: u8,
     pub low: u8,
@@ -58,8 +56,6 @@ pub struct Indication {
 pub struct Outcome {
     pub sent: Option<Sending>,
     pub indication: Option<Indication>,
-    /// Whether the frame stopped the station.
-    pub stopped: bool,
 }
 
 impl Outcome {
@@ -68,7 +64,7 @@ impl Outcome {
     }
 
     pub fn send(sending: Sending) -> Outcome {
-        Outcome { sent: Some(sending), ..Outcome::default() }
+        Outcome { sent: Some(sending), indication: None }
     }
 }
 
@@ -88,10 +84,6 @@ pub enum Phase {
     /// The token was sent this many times to NS.
     PassChecked(u32),
     PassToSelf,
-    /// Outside the ring: the list of masters is not complete; it is, before the first hold; the station stopped.
-    Listening,
-    Ready,
-    Stopped,
 }
 
 /// The last request that was remembered, and the octets it was answered with.
@@ -108,10 +100,7 @@ pub struct Station {
     /// PS; NS is always found in the ring.
     pub previous: u8,
     pub ring: Ring,
-    /// The set that a reset restores; TS alone where the station listens then.
     ring_as_started: Ring,
-    /// What a station keeps that was started by listening.
-    pub listener: Option<Listener>,
     pub points: Points,
     pub high: Queue,
     pub low: Queue,
@@ -131,21 +120,19 @@ pub struct Station {
 impl Station {
     pub fn start(start: Start) -> Result<Station, Refusal> {
         refuse_start(&start)?;
+        note(Transition::StartAccepted);
         let address = start.address as u8;
-        let listens = start.masters.is_none();
-        note(if listens { Transition::ListenAccepted } else { Transition::StartAccepted });
-        let ring = Ring::of(&start.masters.unwrap_or(vec![address]));
+        let ring = Ring::of(&start.masters);
         Ok(Station {
             settings: start.settings,
             address,
             previous: ring.previous(address),
             ring_as_started: ring.clone(),
             ring,
-            listener: listens.then(Listener::default),
             points: start.points,
             high: Queue::new(usize::from(start.high)),
             low: Queue::new(usize::from(start.low)),
-            phase: if listens { Phase::Listening } else { Phase::Idle },
+            phase: Phase::Idle,
             marks: [None; 127],
             first_token: None,
             acceptance: None,
@@ -175,22 +162,11 @@ impl Station {
 
     /// Fills in the station's limit where the request asks for it, then looks.
     pub fn submit(&mut self, priority: Priority, request: Request) -> Result<(), Refusal> {
-        note_each(&[
-            (self.has_stopped() && request.destination == self.address, Transition::StoppedSubmitOwn),
-            (self.has_stopped() && request.limit > MOST_RETRIES, Transition::StoppedSubmitLimit),
-            (self.has_stopped() && self.queue(priority).is_full(), Transition::StoppedSubmitFull),
-        ]);
-        self.refuse_stopped(Transition::StoppedSubmit)?;
         let request = request.filled(self.settings.retry_limit);
         let refused = request.refuse(self.address);
         self.note_limit(priority, &request, refused.err());
         refused?;
-        self.queue_mut(priority).submit(request)?;
-        note_each(&[
-            (matches!(self.phase, Phase::Listening), Transition::ListenSubmit),
-            (matches!(self.phase, Phase::Ready), Transition::ReadySubmit),
-        ]);
-        Ok(())
+        self.queue_mut(priority).submit(request)
     }
 
     pub fn collect(&mut self, priority: Priority) -> Result<Confirmed, Refusal> {
@@ -199,19 +175,14 @@ impl Station {
             Err(_) => note(Transition::CollectRefused),
             Ok(confirmed) => note_collected(&confirmed.request),
         }
-        note_each(&[
-            (self.has_stopped() && collected.is_ok(), Transition::StoppedCollect),
-            (self.has_stopped() && collected.is_err(), Transition::StoppedCollectNone),
-        ]);
         collected
     }
 
     pub fn frame(&mut self, heard: &Heard) -> Result<Outcome, Refusal> {
         if heard.high.len() > LONGEST_UPDATE || heard.low.len() > LONGEST_UPDATE {
-            note(if self.has_stopped() { Transition::StoppedUpdate } else { Transition::FrameRefusedUpdate });
+            note(Transition::FrameRefusedUpdate);
             return Err(22);
         }
-        self.refuse_stopped(Transition::StoppedFrame)?;
         Ok(match self.phase.clone() {
             Phase::Idle => self.idle_frame(heard),
             Phase::ReplyAwaited(exchange) => self.awaited_frame(exchange, heard),
@@ -224,63 +195,42 @@ impl Station {
                 note(Transition::SelfFrame);
                 Outcome::nothing()
             }
-            Phase::Listening | Phase::Ready => self.outside_frame(heard),
-            Phase::Stopped => unreachable!("a stopped station refuses a frame"),
         })
     }
 
-    pub fn sent(&mut self, clock: u32) -> Result<Outcome, Refusal> {
-        self.refuse_stopped(Transition::StoppedSent)?;
+    pub fn sent(&mut self, clock: u32) -> Outcome {
         let ignored = match self.phase.clone() {
-            Phase::SdnGoingOut(priority) => return Ok(Outcome::send(self.sdn_sent(priority, clock))),
+            Phase::SdnGoingOut(priority) => return Outcome::send(self.sdn_sent(priority, clock)),
             Phase::PassToSelf => {
                 note(Transition::SelfSent);
-                return Ok(Outcome::send(self.begin_hold(clock)));
+                return Outcome::send(self.begin_hold(clock));
             }
             Phase::Idle => Transition::IdleSent,
             Phase::ReplyAwaited(_) => Transition::AwaitedSent,
             Phase::PassChecked(_) => Transition::CheckSent,
-            Phase::Listening => Transition::ListenSent,
-            Phase::Ready => Transition::ReadySent,
-            Phase::Stopped => unreachable!("a stopped station refuses sent"),
         };
         note(ignored);
-        Ok(Outcome::nothing())
+        Outcome::nothing()
     }
 
-    pub fn slot(&mut self, clock: u32) -> Result<Outcome, Refusal> {
-        self.refuse_stopped(Transition::StoppedSlot)?;
+    pub fn slot(&mut self, clock: u32) -> Outcome {
         let ignored = match self.phase.clone() {
             Phase::ReplyAwaited(exchange) => {
                 note(Transition::AwaitedSlot);
-                return Ok(Outcome::send(self.try_again(exchange, clock)));
+                return Outcome::send(self.try_again(exchange, clock));
             }
-            Phase::PassChecked(sendings) => return Ok(Outcome::send(self.check_expired(sendings))),
-            Phase::Listening | Phase::Ready => return Ok(Outcome::send(self.claim(clock))),
+            Phase::PassChecked(sendings) => return Outcome::send(self.check_expired(sendings)),
             Phase::Idle => Transition::IdleSlot,
             Phase::SdnGoingOut(_) => Transition::SdnSlot,
             Phase::PassToSelf => Transition::SelfSlot,
-            Phase::Stopped => unreachable!("a stopped station refuses slot"),
         };
         note(ignored);
-        Ok(Outcome::nothing())
-    }
-
-    /// Begins afresh with the set as started, or listens afresh if the station was started so.
-    pub fn reset(&mut self) -> Result<(), Refusal> {
-        self.refuse_stopped(Transition::StoppedReset)?;
-        if self.listener.is_some() {
-            self.note_afresh();
-            self.renew(Phase::Listening);
-        } else {
-            self.note_reset();
-            self.renew(Phase::Idle);
-        }
-        Ok(())
+        Outcome::nothing()
     }
 
     /// Confirms all unconfirmed requests DS and forgets all but settings, points, rows and turn.
-    pub fn renew(&mut self, phase: Phase) {
+    pub fn reset(&mut self) {
+        self.note_reset();
         let being_sent = match &self.phase {
             Phase::ReplyAwaited(exchange) => Some((exchange.priority, exchange.sendings)),
             Phase::SdnGoingOut(priority) => Some((*priority, 1)),
@@ -296,13 +246,12 @@ impl Station {
         }
         self.ring = self.ring_as_started.clone();
         self.previous = self.ring.previous(self.address);
-        self.phase = phase;
+        self.phase = Phase::Idle;
         self.marks = [None; 127];
         self.first_token = None;
         self.acceptance = None;
         self.acceptance_before = None;
         self.memory = None;
-        self.listener = self.listener.as_ref().map(|_| Listener::default());
     }
 
     /// Confirms the first unconfirmed request of a queue.
@@ -363,7 +312,7 @@ impl Station {
         ]);
     }
 
-    /// Counts what a reset found at a station that was started with a set.
+    /// Counts what a reset found.
     fn note_reset(&self) {
         note(match self.phase {
             Phase::Idle => Transition::ResetIdle,
@@ -371,7 +320,6 @@ impl Station {
             Phase::SdnGoingOut(_) => Transition::ResetSdn,
             Phase::PassChecked(_) => Transition::ResetCheck,
             Phase::PassToSelf => Transition::ResetSelf,
-            Phase::Listening | Phase::Ready | Phase::Stopped => unreachable!("it has a set of masters"),
         });
         note_each(&[
             (self.ring != self.ring_as_started, Transition::ResetRing),
@@ -396,26 +344,21 @@ fn note_collected(request: &Request) {
     ]);
 }
 
-/// Start's refusals 20 and 21; a start without a set has none to refuse.
+/// Start's refusals 20 and 21.
 fn refuse_start(start: &Start) -> Result<(), Refusal> {
-    let listens = start.masters.is_none();
-    let is_own = |&master: &u8| u32::from(master) == start.address;
-    let of_start = |with_set, listening| if listens { listening } else { with_set };
-    let has_row = [start.high, start.low].iter().all(|row| (1..=LONGEST_ROW).contains(row));
     let (transition, refusal) = if !start.settings.in_range() {
-        (of_start(Transition::StartRefusedSetting, Transition::ListenRefusedSetting), 20)
+        (Transition::StartRefusedSetting, 20)
     } else if !start.settings.in_rule() {
-        (of_start(Transition::StartRefusedSlotTime, Transition::ListenRefusedSlotTime), 20)
+        (Transition::StartRefusedSlotTime, 20)
     } else if start.address >= u32::from(ALL_STATIONS) {
-        (of_start(Transition::StartRefusedAddress, Transition::ListenRefusedAddress), 20)
-    } else if start.masters.as_ref().is_some_and(|masters| !masters.iter().any(is_own)) {
+        (Transition::StartRefusedAddress, 20)
+    } else if !start.masters.contains(&(start.address as u8)) {
         (Transition::StartRefusedSet, 20)
-    } else if !has_row {
-        (of_start(Transition::StartRefusedRow, Transition::ListenRefusedRow), 21)
+    } else if [start.high, start.low].iter().any(|row| !(1..=LONGEST_ROW).contains(row)) {
+        (Transition::StartRefusedRow, 21)
     } else {
         return Ok(());
     };
     note(transition);
-    note_each(&[(listens && refusal == 20 && !has_row, Transition::ListenRefused20Row)]);
     Err(refusal)
 }

@@ -18,8 +18,7 @@ use Rattle.state.specs.declared.Accepted.{Accepted}
 use Rattle.state.specs.declared.HandedBack.{HandedBack}
 use Rattle.state.specs.World.{Rows, World, Event, Done, Called, rows, rows_of, done, with_core, with_rows, with_site}
 use Rattle.state.specs.World.{world_of}
-use Rattle.state.specs.Calls.{submit, collect}
-use Rattle.state.specs.World.{called, refuse}
+use Rattle.state.specs.Calls.{called, refuse, submit, collect}
 use Rattle.state.specs.Calls as Calls
 use Rattle.state.specs.Told.{lent, handed_back_of, submitted_of}
 use Rattle.state.proofs.Beside.{collect-keeps}
@@ -71,8 +70,7 @@ same-submitted p l s r = same-done _ _ _ _ (same_taken p _ _ _ s r) (same-still 
 submit-same : (p : Priority) (q : Record) (x : List ℕ) (s : State) (r : Rows) → Same s (submit p q x (lent p s r))
 unfolding submit
 submit-same p q x s r =
-    same-pick _ (same-refused p 21 s r)
-    (same-pick _ (same-refused p 31 s r) (same-pick _ (same-refused p 29 s r) (same-submitted p _ s r)))
+    same-pick _ (same-refused p 21 s r) (same-pick _ (same-refused p 29 s r) (same-submitted p _ s r))
 
 -- ---- collect
 same-collected : (p : Priority) (c : Collected) (s : State) (r : Rows)

@@ -157,10 +157,10 @@ made-collect p k e =
     }
 
 -- frame, sent, slot and reset are lent both rows
-held_keeps : {A : Type 0} (core : A → Numbers) (k : Keeps) {a : A} {masters started marks memory : List ℕ}
-    {high low : Rows} {out : List ℕ} {l : Held A}
-    → held a masters started marks k.points memory high low out ≡ l
-    → keeps_with k (core a) masters started marks memory high low
+held_keeps : {A : Type 0} (core : A → Numbers) (k : Keeps) {a : A} {masters marks memory : List ℕ} {high low : Rows}
+    {out : List ℕ} {l : Held A}
+    → held a masters k.started marks k.points memory high low out ≡ l
+    → keeps_with k (core a) masters marks memory high low
     ≡ record {
       core = core l.answer;
       masters = l.masters;
@@ -185,14 +185,14 @@ held_keeps {A = A} core k e =
     })
     e
 
-module _ (k : Keeps) (c : Call) (out : List ℕ) {a : FlatAnswer} {masters started marks memory : List ℕ}
-    {high low : Rows} {out' : List ℕ} where
+module _ (k : Keeps) (c : Call) (out : List ℕ) {a : FlatAnswer} {masters marks memory : List ℕ} {high low : Rows}
+    {out' : List ℕ} where
   made-turn : reply_of k.core c out (call c (world_for k))
       ≡ turns (flat_answer k.core (heard_of (call c (world_for k))))
       (laid out 0 (telling (call c (world_for k)).events).octets)
-      → held a masters started marks k.points memory high low out'
+      → held a masters k.started marks k.points memory high low out'
       ≡ holding k.core (standing (call c (world_for k)) out)
-      → Made k c out (turns a out') (keeps_with k a.core masters started marks memory high low)
+      → Made k c out (turns a out') (keeps_with k a.core masters marks memory high low)
   unfolding holding standing flat_answer heard_of keeps_after state_of
   made-turn i e =
       record {
@@ -200,10 +200,10 @@ module _ (k : Keeps) (c : Call) (out : List ℕ) {a : FlatAnswer} {masters start
         left = held_keeps (λ (y : FlatAnswer). y.core) k e;
       }
 
-made-reset : (k : Keeps) {a : FlatRenewed} {masters started marks : List ℕ} {high low : Rows}
-    → held a masters started marks k.points k.memory high low []
+made-reset : (k : Keeps) {a : FlatRenewed} {masters marks : List ℕ} {high low : Rows}
+    → held a masters k.started marks k.points k.memory high low []
     ≡ resetting k.core (reset_of (Calls.reset (world_for k)))
-    → Made k reset [] (renews a) (keeps_with k a.core masters started marks k.memory high low)
+    → Made k reset [] (renews a) (keeps_with k a.core masters marks k.memory high low)
 unfolding reply_of call resetting reset_of flat_renewed keeps_after
 made-reset k e =
     record {
@@ -228,14 +228,13 @@ pub one-call : {k m n : Keeps} {c : Call} {out : List ℕ} {a b : Reply} → Mak
 one-call x y = ((made x).answer ∙ sym (made y).answer, (made x).left ∙ sym (made y).left)
 
 -- and of a start, with the arrays that it fills
-pub one-start : {points : List ℕ} {f : Filled} {a b : FlatRenewed}
-    {masters masters' started started' marks marks' memory memory' : List ℕ}
-    → filled a masters started marks points memory ≡ f → filled b masters' started' marks' points memory' ≡ f
-    → (a ≡ b) × (masters ≡ masters') × (started ≡ started') × (marks ≡ marks') × (memory ≡ memory')
+pub one-start : {masters points : List ℕ} {f : Filled} {a b : FlatRenewed}
+    {started started' marks marks' memory memory' : List ℕ}
+    → filled a masters started marks points memory ≡ f → filled b masters started' marks' points memory' ≡ f
+    → (a ≡ b) × (started ≡ started') × (marks ≡ marks') × (memory ≡ memory')
 one-start e f =
     let g = e ∙ sym f in (
       ap (λ (x : Filled). x.answer) g,
-      ap (λ (x : Filled). x.masters) g,
       ap (λ (x : Filled). x.started) g,
       ap (λ (x : Filled). x.marks) g,
       ap (λ (x : Filled). x.octets) g,
@@ -308,16 +307,16 @@ record Begins (k : Keeps) (a : Renewed) : Type 0 where
   accepted : a.refused ≡ 0
   state : state_for k ≡ a.state
 
-begins-by : (k : Keeps) (a : Renewed) (r : FlatRenewed) (masters started marks memory : List ℕ)
+begins-by : (k : Keeps) (a : Renewed) (r : FlatRenewed) (started marks memory : List ℕ)
     → filled r k.masters k.started k.marks k.points k.memory
-    ≡ starting a masters started marks k.points memory
+    ≡ starting a k.masters started marks k.points memory
     → r.refused ≡ 0 → k.core ≡ r.core → Begins k a
 unfolding state_for flat_started
-begins-by k a r masters started marks memory e h i =
+begins-by k a r started marks memory e h i =
     let z =
     sym
     (ap (λ (f : Filled). f.answer.refused) e
-    ∙ ap (λ (f : FlatRenewed). f.refused) (starting-answer a masters started marks k.points memory))
+    ∙ ap (λ (f : FlatRenewed). f.refused) (starting-answer a k.masters started marks k.points memory))
     ∙ h in
     record {
       accepted = z;
@@ -325,25 +324,24 @@ begins-by k a r masters started marks memory e h i =
           ap (λ (n : Numbers). state_in n k.masters k.started k.marks k.points k.memory) i
           ∙ ap
           (λ (f : Filled). state_in f.answer.core f.masters f.started f.marks f.points f.octets)
-          (e ∙ starting-filled a masters started marks k.points memory z)
+          (e ∙ starting-filled a k.masters started marks k.points memory z)
           ∙ state-back a;
     }
 
 pub starts-begun : (k : Keeps) → Starts k → Begun (world_for k)
 unfolding world_for
 starts-begun k s =
-    let b =
-    begins-by k _ s.answer s.masters s.started s.marks s.memory s.promise s.accepted s.core in
+    let b = begins-by k _ s.answer s.started s.marks s.memory s.promise s.accepted s.core in
     record {
       settings = settings_in s.settings;
       ts = s.ts;
-      given = s.given;
+      masters = k.masters;
       points = k.points;
       high = s.high;
       low = s.low;
       state = state_for k;
       started =
-          station-of (settings_in s.settings) s.ts s.given k.points s.high s.low b.accepted
+          station-of (settings_in s.settings) s.ts k.masters k.points s.high s.low b.accepted
           ∙ ap Station (sym b.state);
       upper = k.high;
       lower = k.low;

@@ -1,20 +1,17 @@
--- A start takes the access points as they are lent, and the set of masters if it is lent one; reset leaves what is lent
--- to it only to read: so their answers and the arrays that they fill are all that they hand over. Assumes nothing.
+-- Start takes the set of masters and the access points as they are lent, and reset leaves what is lent to it only to
+-- read: so their answers and the arrays that they fill are all that they hand over. Assumes nothing.
 use Prim.Native.Nat.{ℕ}
 use native.Mathlib.Omega.{arith}
 use mathlib.Core.Bool.{Bool, true, false}
 use mathlib.Core.List.{List, []}
-use mathlib.Core.Path.{◌≡◌, refl, sym, ap, ◌∙◌}
+use mathlib.Core.Path.{◌≡◌, refl, ap, ◌∙◌}
 use Rattle.choice.specs.Choice.{pick}
 use Rattle.choice.proofs.Rules.{if-same, unless-same}
-use Rattle.ring.specs.Ring.{alone}
 use Rattle.times.specs.declared.Settings.{Settings}
 use Rattle.state.specs.declared.State.{State}
 use Rattle.state.specs.declared.Renewed.{Renewed}
 use Rattle.state.specs.World.{Rows, Called, state_of, world_of}
-use Rattle.state.specs.Calls.{Unstarted, Station}
-use Rattle.state.specs.World.{refuse}
-use Rattle.state.specs.Fresh.{Given, present, absent, begins_with, fresh_world, forgotten, cleared}
+use Rattle.state.specs.Calls.{Unstarted, Station, refuse, fresh_world, forgotten}
 use Rattle.state.specs.Calls.{resetting as calls_resetting, start, reset}
 use Rattle.state.specs.Told.{Leaves, leaves, started_of, reset_of}
 use Rattle.c_core.specs.declared.numbers.Numbers.{Numbers}
@@ -43,71 +40,45 @@ accepted-by false false false false true s h = absurd (omega arith)
 accepted-by false false false false false s h = refl
 
 filled-by : (a : Renewed) (masters started marks points octets : List ℕ) → a.refused ≡ 0
+    → a.state.masters.0 ≡ masters
     → a.state.points.0 ≡ points
-    → filled (flat_started a) a.state.masters.0 a.state.started.0 a.state.marks.0 points
+    → filled (flat_started a) masters a.state.started.0 a.state.marks.0 points
     a.state.memory.octets
     ≡ starting a masters started marks points octets
 unfolding starting
-filled-by a masters started marks points octets h p = rw (← p) (if-same _ h refl)
+filled-by a masters started marks points octets h m p = rw (← m, ← p) (if-same _ h refl)
 
-module _ (s : Settings) (ts : ℕ) (g : Given) (points : List ℕ) (high low : ℕ) where
-  -- what an accepted start leaves of the sets and the access points
-  start-lists : (started_of (start s ts g points high low)).refused ≡ 0
-      → ((started_of (start s ts g points high low)).state.masters.0 ≡ (begins_with g ts).masters)
-      × ((started_of (start s ts g points high low)).state.started.0 ≡ (begins_with g ts).masters)
-      × ((started_of (start s ts g points high low)).state.points.0 ≡ points)
+module _ (s : Settings) (ts : ℕ) (masters points : List ℕ) (high low : ℕ) where
+  start-lists : (started_of (start s ts masters points high low)).refused ≡ 0
+      → ((started_of (start s ts masters points high low)).state.masters.0 ≡ masters)
+      × ((started_of (start s ts masters points high low)).state.points.0 ≡ points)
   unfolding start state_of fresh_world
   start-lists h = (
     ap (λ (x : State). x.masters.0) (accepted-by _ _ _ _ _ _ h),
-    ap (λ (x : State). x.started.0) (accepted-by _ _ _ _ _ _ h),
     ap (λ (x : State). x.points.0) (accepted-by _ _ _ _ _ _ h),
   )
 
-  -- where the set of masters is lent to be written
-  pub start-filled : {a : Renewed} {r : FlatRenewed} (masters started marks octets : List ℕ)
-      → a ≡ started_of (start s ts g points high low)
-      → r ≡ flat_started a → a.refused ≡ 0
-      → filled r a.state.masters.0 a.state.started.0 a.state.marks.0 points a.state.memory.octets
-      ≡ starting (started_of (start s ts g points high low)) masters started marks points octets
-  start-filled masters started marks octets e f h =
-      let h' = rw e at h in
-      rw (f, e) (filled-by _ masters started marks points octets h' (start-lists h').2)
-
-  pub start-refused : {a : Renewed} {r : FlatRenewed} (masters started marks octets : List ℕ)
-      → a ≡ started_of (start s ts g points high low)
-      → r ≡ flat_started a → (a.refused ≡ 0 → ⊥)
-      → filled r masters started marks points octets
-      ≡ starting (started_of (start s ts g points high low)) masters started marks points octets
-  unfolding starting
-  start-refused masters started marks octets e f h = rw (← e, f) (unless-same _ h refl)
-
-module _ (s : Settings) (ts : ℕ) (points : List ℕ) (high low : ℕ) where
-  -- where it is lent to be read: it is the one that an accepted start has in force
-  pub start-filled-with : {a : Renewed} {r : FlatRenewed} (masters started marks octets : List ℕ)
-      → a ≡ started_of (start s ts (present masters) points high low)
+  pub start-filled : {a : Renewed} {r : FlatRenewed} (started marks octets : List ℕ)
+      → a ≡ started_of (start s ts masters points high low)
       → r ≡ flat_started a → a.refused ≡ 0
       → filled r masters a.state.started.0 a.state.marks.0 points a.state.memory.octets
-      ≡ starting (started_of (start s ts (present masters) points high low)) masters started marks points octets
-  unfolding begins_with
-  start-filled-with {a = a} {r = r} masters started marks octets e f h =
-      ap
-      (λ (l : List ℕ). filled r l a.state.started.0 a.state.marks.0 points a.state.memory.octets)
-      (sym
-      (ap (λ (x : Renewed). x.state.masters.0) e
-      ∙ (start-lists s ts (present masters) points high low (rw e at h)).0))
-      ∙ start-filled s ts (present masters) points high low masters started marks octets e f h
+      ≡ starting (started_of (start s ts masters points high low)) masters started marks points octets
+  start-filled started marks octets e f h =
+      let h' = rw e at h in
+      rw (f, e) (filled-by _ masters started marks points octets h' (start-lists h').0 (start-lists h').1)
 
-  -- a start by listening that is accepted leaves TS alone in both sets
-  pub listening-alone : (started_of (start s ts absent points high low)).refused ≡ 0
-      → ((started_of (start s ts absent points high low)).state.masters.0 ≡ alone ts)
-      × ((started_of (start s ts absent points high low)).state.started.0 ≡ alone ts)
-  unfolding begins_with
-  listening-alone h =
-      let l = start-lists s ts absent points high low h in (l.0, l.1)
+  pub start-refused : {a : Renewed} {r : FlatRenewed} (started marks octets : List ℕ)
+      → a ≡ started_of (start s ts masters points high low)
+      → r ≡ flat_started a → (a.refused ≡ 0 → ⊥)
+      → filled r masters started marks points octets
+      ≡ starting (started_of (start s ts masters points high low)) masters started marks points octets
+  unfolding starting
+  start-refused started marks octets e f h = rw (← e, f) (unless-same _ h refl)
 
 -- ---- reset
 -- what it leaves of a state
 record Kept (s : State) (d : Called) : Type 0 where
+  started : d.world.started ≡ s.started.0
   points : d.world.points ≡ s.points.0
   octets : d.world.memory.octets ≡ s.memory.octets
 
@@ -118,37 +89,37 @@ kept-pick false e f = f
 
 kept-refused : (k : ℕ) (s : State) (high low : Rows) → Kept s (refuse k (world_of s high low))
 unfolding refuse world_of
-kept-refused k s high low = record { points = refl; octets = refl }
+kept-refused k s high low = record { started = refl; points = refl; octets = refl }
 
 kept-renewed : (s : State) (high low : Rows) → Kept s (calls_resetting (world_of s high low))
-unfolding calls_resetting cleared fresh_world forgotten world_of
-kept-renewed s high low = record { points = refl; octets = refl }
+unfolding calls_resetting fresh_world forgotten world_of
+kept-renewed s high low = record { started = refl; points = refl; octets = refl }
 
 reset-kept : (s : State) (high low : Rows) → Kept s (reset (world_of s high low))
 unfolding reset
 reset-kept s high low =
     kept-pick _ (kept-refused 21 s high low)
     (kept-pick _ (kept-refused 21 s high low)
-    (kept-pick _ (kept-refused 31 s high low)
-    (kept-pick _ (kept-refused 29 s high low) (kept-renewed s high low))))
+    (kept-pick _ (kept-refused 29 s high low) (kept-renewed s high low)))
 
-held_by : (n : Numbers) (s : State) (l : Leaves Renewed) → l.answer.state.points.0 ≡ s.points.0
-    → l.answer.state.memory.octets ≡ s.memory.octets
-    → held (flat_renewed n l.answer) l.answer.state.masters.0 l.answer.state.started.0
+held_by : (n : Numbers) (s : State) (l : Leaves Renewed) → l.answer.state.started.0 ≡ s.started.0
+    → l.answer.state.points.0 ≡ s.points.0 → l.answer.state.memory.octets ≡ s.memory.octets
+    → held (flat_renewed n l.answer) l.answer.state.masters.0 s.started.0
     l.answer.state.marks.0 s.points.0 s.memory.octets l.high l.low l.out
     ≡ resetting n l
 unfolding resetting
-held_by n s l e f = rw (e, f)
+held_by n s l e f g = rw (e, f, g)
 
 pub reset-held : (n : Numbers) (s : State) (high low : Rows) {a : Renewed} {r : FlatRenewed} {high' low' : Rows}
     → leaves a high' low' [] ≡ reset_of (reset (world_of s high low)) → r ≡ flat_renewed n a
-    → held r a.state.masters.0 a.state.started.0 a.state.marks.0 s.points.0 s.memory.octets
+    → held r a.state.masters.0 s.started.0 a.state.marks.0 s.points.0 s.memory.octets
     high' low' []
     ≡ resetting n (reset_of (reset (world_of s high low)))
 unfolding reset_of state_of
 reset-held n s high low e f =
     let k = reset-kept s high low in
     rw f
-    (held_by n s _ (ap (λ (l : Leaves Renewed). l.answer.state.points.0) e ∙ k.points)
+    (held_by n s _ (ap (λ (l : Leaves Renewed). l.answer.state.started.0) e ∙ k.started)
+    (ap (λ (l : Leaves Renewed). l.answer.state.points.0) e ∙ k.points)
     (ap (λ (l : Leaves Renewed). l.answer.state.memory.octets) e ∙ k.octets)
     ∙ ap (resetting n) e)

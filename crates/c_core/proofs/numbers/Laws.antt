@@ -10,31 +10,26 @@ use Rattle.choice.specs.Choice.{pick, less, same, said}
 use Rattle.choice.proofs.Rules.{pick_true, less-true}
 use Rattle.times.specs.declared.Settings.{Settings}
 use Rattle.times.specs.Times.{unruly}
-use Rattle.state.specs.declared.Stage.{Stage}
-use Rattle.state.specs.declared.Stage.TheVariants.{Listening, Ready, Stopped}
 use Rattle.state.specs.declared.Phase.{Phase}
-use Rattle.state.specs.declared.Phase.TheVariants.{Idle, Awaited, Sdn, Check, ToSelf, Outside}
+use Rattle.state.specs.declared.Phase.TheVariants.{Idle, Awaited, Sdn, Check, ToSelf}
 use Rattle.state.specs.declared.Priority.{Priority}
 use Rattle.state.specs.declared.Priority.TheVariants.{High, Low}
 use Rattle.state.specs.declared.Core.{Core}
 use Rattle.state.specs.declared.Kept.{Kept}
-use Rattle.state.specs.Refusals.{unstartable, unstarted, lawless, stopped_at, has_stopped}
+use Rattle.state.specs.Refusals.{unstartable, unstarted, lawless}
 use Rattle.c_core.specs.declared.numbers.Numbers.{Numbers}
-use Rattle.c_core.specs.Numbers.{stage_number, phase_number, phase_of, served_number, served_of, flag_number, flag_of}
-use Rattle.c_core.specs.Numbers.{unflagged, malformed, ts_in, settings_in, settings_of, doing_in, hold_in, high_in}
-use Rattle.c_core.specs.Numbers.{low_in, learner_in, core_in, kept_in, numbers_of}
+use Rattle.c_core.specs.Numbers.{phase_number, phase_of, served_number, served_of, flag_number, flag_of, malformed}
+use Rattle.c_core.specs.Numbers.{ts_in, settings_in, settings_of, doing_in, hold_in, high_in, low_in, core_in}
+use Rattle.c_core.specs.Numbers.{kept_in, numbers_of}
 
 -- ---- each case comes back from its number
 phase-back : (p : Phase) → phase_of (phase_number p) ≡ p
-unfolding phase_of phase_number stage_number pick same
+unfolding phase_of phase_number pick same
 phase-back Idle = refl
 phase-back Awaited = refl
 phase-back Sdn = refl
 phase-back Check = refl
 phase-back ToSelf = refl
-phase-back (Outside Listening) = refl
-phase-back (Outside Ready) = refl
-phase-back (Outside Stopped) = refl
 
 served-back : (p : Priority) → served_of (served_number p) ≡ p
 unfolding served_of served_number pick same
@@ -47,16 +42,13 @@ flag-back true = refl
 flag-back false = refl
 
 -- and its number stands for a case
-phase-below : (p : Phase) → less 7 (phase_number p) ≡ false
-unfolding phase_number stage_number less
+phase-below : (p : Phase) → less 4 (phase_number p) ≡ false
+unfolding phase_number less
 phase-below Idle = refl
 phase-below Awaited = refl
 phase-below Sdn = refl
 phase-below Check = refl
 phase-below ToSelf = refl
-phase-below (Outside Listening) = refl
-phase-below (Outside Ready) = refl
-phase-below (Outside Stopped) = refl
 
 served-below : (p : Priority) → less 1 (served_number p) ≡ false
 unfolding served_number less
@@ -68,29 +60,10 @@ unfolding flag_number pick less
 flag-below true = refl
 flag-below false = refl
 
-well-formed : (c : Core) (k : Kept) → malformed (numbers_of c k) ≡ false
-unfolding malformed unflagged numbers_of pick
-well-formed c k =
-    rw (
-      phase-below c.doing.phase,
-      served-below c.doing.served,
-      flag-below c.doing.sdn,
-      flag-below k.bit,
-      flag-below c.learner.listens,
-      flag-below c.learner.own,
-    )
-
--- a station has stopped exactly where its phase is 7
-pub stopped-7 : (p : Phase) → has_stopped p ≡ same (phase_number p) 7
-unfolding has_stopped stopped_at phase_number stage_number same
-stopped-7 Idle = refl
-stopped-7 Awaited = refl
-stopped-7 Sdn = refl
-stopped-7 Check = refl
-stopped-7 ToSelf = refl
-stopped-7 (Outside Listening) = refl
-stopped-7 (Outside Ready) = refl
-stopped-7 (Outside Stopped) = refl
+well-formed : (p : Phase) (s : Priority) (x b : Bool)
+    → malformed (phase_number p) (served_number s) (flag_number x) (flag_number b) ≡ false
+unfolding malformed pick
+well-formed p s x b = rw (phase-below p, served-below s, flag-below x, flag-below b)
 
 -- ---- settings come back: a start that is given the numbers of the standard settings is one with the standard settings
 pub settings-back : (s : Settings) → settings_in (settings_of s) ≡ s
@@ -99,15 +72,13 @@ settings-back s = refl
 
 -- ---- the core and what the memory keeps come back
 pub core-back : (c : Core) (k : Kept) → core_in (numbers_of c k) ≡ c
-unfolding core_in settings_in settings_of ts_in doing_in hold_in high_in low_in learner_in numbers_of said pick
+unfolding core_in settings_in settings_of ts_in doing_in hold_in high_in low_in numbers_of said pick
 core-back c k =
     rw (
-      well-formed c k,
+      well-formed c.doing.phase c.doing.served c.doing.sdn k.bit,
       phase-back c.doing.phase,
       served-back c.doing.served,
       flag-back c.doing.sdn,
-      flag-back c.learner.listens,
-      flag-back c.learner.own,
     )
 
 pub kept_back : (c : Core) (k : Kept) → kept_in (numbers_of c k) ≡ k
@@ -115,7 +86,7 @@ unfolding kept_in numbers_of
 kept_back c k = rw (flag-back k.bit)
 
 -- ---- numbers that stand for no case are lawless
-no-ts : (n : Numbers) → malformed n ≡ true → (ts_in n).0 ≡ 127
+no-ts : (n : Numbers) → malformed n.phase n.served n.sdn n.bit ≡ true → (ts_in n).0 ≡ 127
 unfolding ts_in said pick
 no-ts n e = rw e
 
@@ -130,7 +101,7 @@ unfolding unstartable
 unstartable-127 n masters e =
     either (said (unruly (settings_in n.settings))) (pick_true _ _ (rw e (less-true (omega arith))))
 
-pub malformed-lawless : (n : Numbers) (masters started : List ℕ) → malformed n ≡ true
-    → lawless (core_in n) masters started (kept_in n) ≡ true
+pub malformed-lawless : (n : Numbers) (masters started : List ℕ)
+    → malformed n.phase n.served n.sdn n.bit ≡ true → lawless (core_in n) masters started (kept_in n) ≡ true
 unfolding lawless unstarted said pick core_in
 malformed-lawless n masters started e = rw (unstartable-127 n masters (no-ts n e))

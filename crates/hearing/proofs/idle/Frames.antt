@@ -1,11 +1,11 @@
 -- A frame in Idle, by what it was read as. Assumes nothing.
 use Prim.Native.Nat.{ℕ}
 use mathlib.Core.Bool.{Bool}
-use mathlib.Core.Path.{◌≡◌}
+use mathlib.Core.Path.{◌≡◌, ap}
 use mathlib.Core.List.{List}
 use native.Mathlib.Omega.{arith}
 use Rattle.clock.specs.declared.BitTime.{BitTime}
-use Rattle.control.specs.declared.Kind.{Kind}
+use Rattle.control.specs.declared.Kind.TheVariants.{InRing}
 use Rattle.frame.specs.declared.Address.{Address}
 use Rattle.frame.specs.declared.Answer.{Answer}
 use Rattle.frame.specs.declared.Answer.TheVariants.{Refused, Read}
@@ -22,9 +22,7 @@ use Rattle.state.specs.World.{Rows, World, Called}
 use Rattle.state.specs.Request.{wait_for}
 use Rattle.state.specs.Answering.{Asked, answer}
 use Rattle.state.specs.Hold.{token}
-use Rattle.state.specs.Calls.{replying, idle, idle_read}
-use Rattle.state.specs.World.{called, nothing}
-use Rattle.state.specs.Listening.{kind_in, responder}
+use Rattle.state.specs.Calls.{called, replying, nothing, responder, idle, idle_read}
 use Rattle.phases.proofs.Read.{readable}
 use Rattle.hearing.specs.Hears.{Listening, Sound}
 
@@ -73,7 +71,7 @@ asked {h = h} s e i l =
     }
 
 -- what the master answers as, by the wait that was found
-pub handed-over : (c : Core) {k : Kind} {w : BitTime} → k ≡ kind_in c.doing.phase → w.0 ≡ wait_for c Reply
-    → record { ts = c.ts; kind = k; wait = w } ≡ responder c
+pub handed-over : (c : Core) {w : BitTime} → w.0 ≡ wait_for c Reply
+    → record { ts = c.ts; kind = InRing; wait = w } ≡ responder c
 unfolding responder
-handed-over c e f = rw (e, f)
+handed-over c e = ap (λ (n : ℕ). record { ts = c.ts; kind = InRing; wait = record { 0 = n } }) e

@@ -16,14 +16,13 @@ use Rattle.state.specs.declared.Spoken.{Spoken}
 use Rattle.state.specs.declared.Responder.{Responder}
 use Rattle.state.specs.World.{Rows, Event, Done, site_of, with_site, with_memory}
 use Rattle.state.specs.Answering.{Answered, replies}
-use Rattle.state.specs.Calls.{replying}
-use Rattle.state.specs.World.{called, nothing, refuse}
+use Rattle.state.specs.Calls.{called, replying, nothing, refuse}
 use Rattle.state.specs.Told.{Does, Says, telling, untold, adds, stands, standing, heard_of, world_in}
 use Rattle.state.proofs.Refused.{Calm, unrefused}
 use Rattle.state.proofs.Answers.{Answers, none, replied, shown, Answering}
 
 -- octets laid at the start of the output end at their count
-pub placed : {n m : ℕ} {out out' : List ℕ} (o : List ℕ) → Lays out 0 o m n out' → n ≡ length o
+placed : {n m : ℕ} {out out' : List ℕ} (o : List ℕ) → Lays out 0 o m n out' → n ≡ length o
 placed o l = omega (arith, l.place)
 
 -- the refusal, told alone
@@ -60,7 +59,7 @@ module _ (c : Core) {k : Kept} (masters : List ℕ) {t : List ℕ} (marks : List
   stands-does d {m} q x e =
       rw (e, ← x.site, unrefused _ q.calm, q.silent, ← x.wait, placed _ x.laid, ← x.laid.left)
 
-pub answers-unrefused : {r : Responder} {l : List Event} → Answers r l → (telling l).refused ≡ 0
+answers-unrefused : {r : Responder} {l : List Event} → Answers r l → (telling l).refused ≡ 0
 unfolding telling untold adds replies
 answers-unrefused none = refl
 answers-unrefused (replied o l e a) = answers-unrefused a

@@ -2,7 +2,7 @@
 use native.Mathlib.Omega.{arith}
 use Rattle.serve.proofs.Telling.{does-as}
 use Rattle.tokens.proofs.Taking.{does-still}
-use Rattle.phases.proofs.Phases.{sent-idle, sent-awaited, sent-sdn, sent-check, sent-self, sent-outside}
+use Rattle.phases.proofs.Phases.{sent-idle, sent-awaited, sent-sdn, sent-check, sent-self}
 use borrow.Author.Rules.{rules}
 use Rattle.phases.proofs.sent_in.Statement.{statement}
 use Rattle.phases.proofs.sent_in.Tie as tie
@@ -44,11 +44,6 @@ returns-5 c =
     let after-enum-told5 : tie.After-enum-told5 = search depth 0 in
     does-as (sent-self _ _ after-enum-told5.enum-told5.given.1) after-begin.begin.ensures
 
-returns-6 : tie.Need-returns-6
-returns-6 c =
-    let after-enum-told6 : tie.After-enum-told6 = search depth 0 in
-    does-as (sent-outside _ _ after-enum-told6.enum-told6.given.1) (does-still _ _ _ _ _ _ c.quiet4.ensures)
-
 pub sent-in-spec : {M : Type 1} → statement M
 sent-in-spec =
     tie.close
@@ -60,8 +55,6 @@ sent-in-spec =
     (λ c. search rules)
     (λ c. search rules)
     finish-requires
-    (λ c. search rules)
-    (λ c κs. search rules)
     (λ c. search rules)
     (λ c κs. search rules)
     (λ c. search rules)
@@ -80,5 +73,4 @@ sent-in-spec =
     (λ c. search rules)
     (λ c. search rules)
     (λ c. search rules)
-    returns-5
-    returns-6)
+    returns-5)

@@ -1,7 +1,7 @@
 -- `phases::slot_in` meets its contract. Assumes nothing.
 use Rattle.serve.proofs.Telling.{does-as}
 use Rattle.tokens.proofs.Taking.{does-still}
-use Rattle.phases.proofs.Phases.{slot-idle, slot-awaited, slot-sdn, slot-check, slot-self, slot-outside}
+use Rattle.phases.proofs.Phases.{slot-idle, slot-awaited, slot-sdn, slot-check, slot-self}
 use borrow.Author.Rules.{rules}
 use Rattle.phases.proofs.slot_in.Statement.{statement}
 use Rattle.phases.proofs.slot_in.Tie as tie
@@ -43,12 +43,6 @@ returns-5 c =
     let after-enum-told5 : tie.After-enum-told5 = search depth 0 in
     does-as (slot-self _ _ after-enum-told5.enum-told5.given.1) (does-still _ _ _ _ _ _ c.quiet3.ensures)
 
-returns-6 : tie.Need-returns-6
-returns-6 c =
-    let after-claim : tie.After-claim = search depth 0 in
-    let after-enum-told6 : tie.After-enum-told6 = search depth 0 in
-    does-as (slot-outside _ _ after-enum-told6.enum-told6.given.1) after-claim.claim.ensures
-
 pub slot-in-spec : {M : Type 1} → statement M
 slot-in-spec =
     tie.close
@@ -57,8 +51,6 @@ slot-in-spec =
     (λ c κs. search rules)
     (λ c. search rules)
     retry-requires
-    (λ c. search rules)
-    (λ c κs. search rules)
     (λ c. search rules)
     (λ c κs. search rules)
     (λ c. search rules)
@@ -75,10 +67,4 @@ slot-in-spec =
     returns-3
     (λ c. search rules)
     returns-4
-    returns-5
-    (λ c. search rules)
-    (λ c. search rules)
-    (λ c. search rules)
-    (λ c. search rules)
-    (λ c. search rules)
-    returns-6)
+    returns-5)

@@ -10,34 +10,29 @@ use Rattle.frame.specs.declared.Access.TheVariants.{None as NoAccess, At}
 use Rattle.frame.specs.Reading.{shown as data_of}
 use Rattle.state.specs.declared.Indication.TheVariants.{None, Shown}
 use Rattle.frame.specs.Access.{point_of}
-use Rattle.ring.specs.Ring.{member, alone}
-use Rattle.state.specs.declared.Stage.TheVariants.{Ready}
-use Rattle.state.specs.declared.Phase.TheVariants.{Outside}
-use Rattle.state.specs.Fresh.{absent, deaf, begins_with, stopped, empty_queue, fresh_core}
-use Rattle.times.specs.Times.{standard}
+use Rattle.ring.specs.Ring.{member}
 use Rattle.typed.specs.Digits.{glyph, hex_of, shown}
 use Rattle.printed.specs.Numeral.{digit, numeral_in, numeral}
 use Rattle.printed.specs.Printed.{service_word, priority_word, status_word, point_word, refused_line, sending, ends}
-use Rattle.printed.specs.Printed.{indicating, stopping, done_line, referring, collected_line, joined, counts}
-use Rattle.printed.specs.Printed.{stage_word, phase_word, absent_at, is_absent, ring_words, shown_line}
+use Rattle.printed.specs.Printed.{indicating, done_line, referring, collected_line, joined}
 
 -- "ok send 75 1007026D7616"
-pub a-request-sent : done_line false 75 (16 ∷ (7 ∷ (2 ∷ (109 ∷ (118 ∷ (22 ∷ [])))))) None [] ≡
+pub a-request-sent : done_line 75 (16 ∷ (7 ∷ (2 ∷ (109 ∷ (118 ∷ (22 ∷ [])))))) None [] ≡
     (111 ∷ (107 ∷ (32 ∷ (115 ∷ (101 ∷ (110 ∷ (100 ∷
     (32 ∷ (55 ∷ (53 ∷ (32 ∷ (49 ∷ (48 ∷ (48 ∷
     (55 ∷ (48 ∷ (50 ∷ (54 ∷ (68 ∷ (55 ∷ (54 ∷ (49 ∷ (54 ∷ (10 ∷ []))))))))))))))))))))))))
 unfolding pick less same said digit numeral_in numeral glyph hex_of shown data_of bit fc point_of member service_word
-    priority_word status_word point_word refused_line sending ends indicating stopping done_line referring collected_line joined
+    priority_word status_word point_word refused_line sending ends indicating done_line referring collected_line joined
 a-request-sent = refl
 
 -- "ok"
-pub nothing-sent : done_line false 0 [] None [] ≡ (111 ∷ (107 ∷ (10 ∷ [])))
+pub nothing-sent : done_line 0 [] None [] ≡ (111 ∷ (107 ∷ (10 ∷ [])))
 unfolding pick less same said digit numeral_in numeral glyph hex_of shown data_of bit fc point_of member service_word
-    priority_word status_word point_word refused_line sending ends indicating stopping done_line referring collected_line joined
+    priority_word status_word point_word refused_line sending ends indicating done_line referring collected_line joined
 nothing-sent = refl
 
 -- "ok indicate sdn high 127 5 60 - 01FF", of the data of a frame, and nothing sent
-pub an-indication : done_line false 0 [] (Shown (record {
+pub an-indication : done_line 0 [] (Shown (record {
   destination = record { 0 = 127 };
   to = At (record { 0 = 60 });
   source = record { 0 = 5 };
@@ -50,15 +45,8 @@ pub an-indication : done_line false 0 [] (Shown (record {
     (49 ∷ (50 ∷ (55 ∷ (32 ∷ (53 ∷ (32 ∷ (54 ∷
     (48 ∷ (32 ∷ (45 ∷ (32 ∷ (48 ∷ (49 ∷ (70 ∷ (70 ∷ (10 ∷ [])))))))))))))))))))))))))))))))))))))
 unfolding pick less same said digit numeral_in numeral glyph hex_of shown data_of bit fc point_of member service_word
-    priority_word status_word point_word refused_line sending ends indicating stopping done_line referring collected_line joined
+    priority_word status_word point_word refused_line sending ends indicating done_line referring collected_line joined
 an-indication = refl
-
--- "ok stopped"
-pub a-stop : done_line true 0 [] None [] ≡
-    (111 ∷ (107 ∷ (32 ∷ (115 ∷ (116 ∷ (111 ∷ (112 ∷ (112 ∷ (101 ∷ (100 ∷ (10 ∷ [])))))))))))
-unfolding pick less same said digit numeral_in numeral glyph hex_of shown data_of bit fc point_of member service_word
-    priority_word status_word point_word refused_line sending ends indicating stopping done_line referring collected_line joined
-a-stop = refl
 
 -- "ok 0 srd 7 - - NA 2 -"
 pub a-record : collected_line 0 (record {
@@ -77,7 +65,7 @@ pub a-record : collected_line 0 (record {
     (111 ∷ (107 ∷ (32 ∷ (48 ∷ (32 ∷ (115 ∷ (114 ∷
     (100 ∷ (32 ∷ (55 ∷ (32 ∷ (45 ∷ (32 ∷ (45 ∷ (32 ∷ (78 ∷ (65 ∷ (32 ∷ (50 ∷ (32 ∷ (45 ∷ (10 ∷ []))))))))))))))))))))))
 unfolding pick less same said digit numeral_in numeral glyph hex_of shown data_of bit fc point_of member service_word
-    priority_word status_word point_word refused_line sending ends indicating stopping done_line referring collected_line joined
+    priority_word status_word point_word refused_line sending ends indicating done_line referring collected_line joined
 a-record = refl
 
 -- "ok 1 srd 7 - - NA 1 - ref 4711"
@@ -98,42 +86,23 @@ pub a-record-with-reference : collected_line 1 (record {
     (100 ∷ (32 ∷ (55 ∷ (32 ∷ (45 ∷ (32 ∷ (45 ∷ (32 ∷ (78 ∷ (65 ∷ (32 ∷ (49 ∷ (32 ∷ (45 ∷ (32 ∷
     (114 ∷ (101 ∷ (102 ∷ (32 ∷ (52 ∷ (55 ∷ (49 ∷ (49 ∷ (10 ∷ [])))))))))))))))))))))))))))))))
 unfolding pick less same said digit numeral_in numeral glyph hex_of shown data_of bit fc point_of member service_word
-    priority_word status_word point_word refused_line sending ends indicating stopping done_line referring collected_line joined
+    priority_word status_word point_word refused_line sending ends indicating done_line referring collected_line joined
 a-record-with-reference = refl
 
 -- "refused 25"
 pub a-refusal : refused_line 25 ≡ (114 ∷ (101 ∷ (102 ∷ (117 ∷ (115 ∷ (101 ∷ (100 ∷ (32 ∷ (50 ∷ (53 ∷ (10 ∷ [])))))))))))
 unfolding pick less same said digit numeral_in numeral glyph hex_of shown data_of bit fc point_of member service_word
-    priority_word status_word point_word refused_line sending ends indicating stopping done_line referring collected_line joined
+    priority_word status_word point_word refused_line sending ends indicating done_line referring collected_line joined
 a-refusal = refl
 
 -- "2,5", of seven addresses
 pub the-masters : joined true 7 0 (0 ∷ (0 ∷ (1 ∷ (0 ∷ (0 ∷ (1 ∷ (0 ∷ []))))))) ≡ (50 ∷ (44 ∷ (53 ∷ [])))
 unfolding pick less same said digit numeral_in numeral glyph hex_of shown data_of bit fc point_of member service_word
-    priority_word status_word point_word refused_line sending ends indicating stopping done_line referring collected_line joined
+    priority_word status_word point_word refused_line sending ends indicating done_line referring collected_line joined
 the-masters = refl
-
--- "ok listen 2 - - - 0 0 0 0", of a station just started without a set
-pub a-listening-station : shown_line (fresh_core standard 2 (begins_with absent 2) (empty_queue 4) (empty_queue 4)) (alone 2) ≡
-    (111 ∷ (107 ∷ (32 ∷ (108 ∷ (105 ∷ (115 ∷ (116 ∷ (101 ∷ (110 ∷ (32 ∷ (50 ∷ (32 ∷ (45 ∷ (32 ∷ (45 ∷ (32 ∷ (45 ∷ (32 ∷ (48 ∷ (32 ∷ (48 ∷ (32 ∷ (48 ∷ (32 ∷ (48 ∷ (10 ∷ []))))))))))))))))))))))))))
-unfolding pick less same digit numeral_in numeral stage_word phase_word absent_at is_absent ring_words counts shown_line
-    fresh_core begins_with deaf empty_queue
-a-listening-station = refl
-
--- "ok stopped 2 - - - 0 0 0 0"
-pub a-stopped-station : shown_line (fresh_core standard 2 (stopped 2) (empty_queue 4) (empty_queue 4)) (alone 2) ≡
-    (111 ∷ (107 ∷ (32 ∷ (115 ∷ (116 ∷ (111 ∷ (112 ∷ (112 ∷ (101 ∷ (100 ∷ (32 ∷ (50 ∷ (32 ∷ (45 ∷ (32 ∷ (45 ∷ (32 ∷ (45 ∷ (32 ∷ (48 ∷ (32 ∷ (48 ∷ (32 ∷ (48 ∷ (32 ∷ (48 ∷ (10 ∷ [])))))))))))))))))))))))))))
-unfolding pick less same digit numeral_in numeral stage_word phase_word absent_at is_absent ring_words counts shown_line
-    fresh_core stopped deaf empty_queue
-a-stopped-station = refl
-
--- "ready", and the set is there
-pub a-ready-station : (phase_word (Outside Ready) ≡ (114 ∷ (101 ∷ (97 ∷ (100 ∷ (121 ∷ [])))))) × (is_absent (Outside Ready) ≡ false)
-unfolding stage_word phase_word absent_at is_absent
-a-ready-station = (refl, refl)
 
 -- the greatest number
 pub the-greatest : numeral 4294967295 ≡ (52 ∷ (50 ∷ (57 ∷ (52 ∷ (57 ∷ (54 ∷ (55 ∷ (50 ∷ (57 ∷ (53 ∷ []))))))))))
 unfolding pick less same said digit numeral_in numeral glyph hex_of shown data_of bit fc point_of member service_word
-    priority_word status_word point_word refused_line sending ends indicating stopping done_line referring collected_line joined
+    priority_word status_word point_word refused_line sending ends indicating done_line referring collected_line joined
 the-greatest = refl

@@ -25,10 +25,6 @@ returns-5 : tie.Need-returns-5
 unfolding odd_in
 returns-5 c = cc (pick-not c.alone2.result)
 
-returns-6 : tie.Need-returns-6
-unfolding odd_in
-returns-6 c = cc
-
 pub odd-spec : {M : Type 1} → statement M
 odd-spec =
     tie.close
@@ -42,10 +38,8 @@ odd-spec =
     (λ c κs. search rules)
     (λ c. search rules)
     (λ c κs. search rules)
-    (λ c. search rules)
     returns
     returns-2
     returns-3
     returns-4
-    returns-5
-    returns-6)
+    returns-5)

@@ -23,10 +23,6 @@ returns-4 : tie.Need-returns-4
 unfolding refusal_in
 returns-4 c = search (picks, asked) depth 20
 
-returns-5 : tie.Need-returns-5
-unfolding refusal_in
-returns-5 c = search (picks, asked) depth 20
-
 unsound-requires : tie.Need-unsound-requires
 unsound-requires c κs =
     let after-lawless : tie.After-lawless = search depth 0 in
@@ -36,15 +32,15 @@ unsound-requires c κs =
     let after-unlent : tie.After-unlent = search depth 0 in
     let high = lent_rows _ _ (sym after-unlent.unlent.ensures ∙ else1.if1.left) in
     let low = lent_rows _ _ (sym after-unlent2.unlent2.ensures ∙ else2.if2.left) in
-    (lawful _ _ _ _ (sym after-lawless.lawless.ensures ∙ c.if5.false), (high.places, low.places))
+    (lawful _ _ _ _ (sym after-lawless.lawless.ensures ∙ c.if4.false), (high.places, low.places))
+
+returns-5 : tie.Need-returns-5
+unfolding refusal_in
+returns-5 c = search (picks, asked) depth 20
 
 returns-6 : tie.Need-returns-6
 unfolding refusal_in
 returns-6 c = search (picks, asked) depth 20
-
-returns-7 : tie.Need-returns-7
-unfolding refusal_in
-returns-7 c = search (picks, asked) depth 20
 
 pub refusal-spec : {M : Type 1} → statement M
 refusal-spec =
@@ -58,8 +54,6 @@ refusal-spec =
     returns-3
     (λ c κs. search rules)
     returns-4
-    (λ c κs. search rules)
-    returns-5
     unsound-requires
-    returns-6
-    returns-7)
+    returns-5
+    returns-6)

@@ -25,10 +25,6 @@ returns-5 : tie.Need-returns-5
 unfolding unlike_in
 returns-5 c = cc
 
-returns-6 : tie.Need-returns-6
-unfolding unlike_in
-returns-6 c = cc
-
 pub unlike-spec : {M : Type 1} → statement M
 unlike-spec =
     tie.close
@@ -40,10 +36,8 @@ unlike-spec =
     (λ c κs. search rules)
     (λ c. search rules)
     (λ c. search rules)
-    (λ c. search rules)
     returns
     returns-2
     returns-3
     returns-4
-    returns-5
-    returns-6)
+    returns-5)

@@ -8,14 +8,13 @@ use Rattle.station.proofs.frame.Tie as tie
 returns : tie.Need-returns
 unfolding world_of
 returns c =
-    answered _ _ c.stops.ensures
-    c.before.before.before.before.before.before.before.before.before.before.before.before.before.before.frame.ensures
+    answered _ _
+    c.before.before.before.before.before.before.before.before.before.before.before.before.before.frame.ensures
 
 pub frame-spec : {M : Type 1} → statement M
 frame-spec =
     tie.close
     (tie.spec
-    (λ c κs. search rules)
     (λ c κs. search rules)
     (λ c. search rules)
     (λ c. search rules)

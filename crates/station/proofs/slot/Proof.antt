@@ -8,14 +8,13 @@ use Rattle.station.proofs.slot.Tie as tie
 returns : tie.Need-returns
 unfolding world_of
 returns c =
-    answered _ _ c.stops.ensures
-    (c.before.before.before.before.before.before.before.before.before.before.before.before.before.before.slot.ensures.told _ _)
+    answered _ _
+    (c.before.before.before.before.before.before.before.before.before.before.before.before.before.slot.ensures.told _ _)
 
 pub slot-spec : {M : Type 1} → statement M
 slot-spec =
     tie.close
     (tie.spec
-    (λ c κs. search rules)
     (λ c κs. search rules)
     (λ c. search rules)
     (λ c. search rules)

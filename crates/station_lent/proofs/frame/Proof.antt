@@ -6,9 +6,6 @@ use borrow.Author.Rules.{rules}
 use Rattle.station_lent.proofs.frame.Statement.{statement}
 use Rattle.station_lent.proofs.frame.Tie as tie
 
-abbrev start_of : tie.After-refusal → tie.Start
-start_of c = search depth 0
-
 returns : tie.Need-returns
 returns c =
     let then1 : tie.Then1 = search depth 0 in
@@ -35,10 +32,11 @@ returns-2 c =
     let after-hear-arg2 : tie.After-hear-arg2 = search depth 0 in
     let else1 : tie.Else1 = search depth 0 in
     let after-refusal : tie.After-refusal = search depth 0 in
-    let a = (start_of after-refusal).args in
+    let start = after-refusal.before.before.before.before.before.before.before.before.before.before.before.before.before.before in
+    let a = start.args in
     rw
     (frame-granted _ _ _ _ _ _ _ _ _ _ a.out.now _ a.first.now a.second.now _
-    after-refusal.refusal.ensures else1.if1.left) after-hear.hear.ensures
+    after-refusal.refusal.ensures else1.if1.left) (after-hear.hear.ensures.told _)
 
 pub frame-spec : {M : Type 1} → statement M
 frame-spec =

@@ -98,7 +98,7 @@ stayed = (
   ),
 )
 
--- the types of the slices, and the code after the first two calls, and after the first one
+-- the types of the slices, and the code after the first two calls
 abbrev row-slice : Ty
 row-slice = slice_ty (ty_ref (named 0) imm (pointee Row.written))
 
@@ -112,9 +112,6 @@ last = seq (assign (place 6 []) (rv_opd (copy (place 3 (field 1 ∷ [])))))
     (call #station-records·handing
     (copy (place 1 []) ∷ copy (place 2 []) ∷ copy (place 5 []) ∷ copy (place 6 []) ∷ copy (place 7 []) ∷ [])
     (place 0 [])) return))
-
-abbrev rest : Body
-rest = seq (call #records·at (copy (place 3 []) ∷ copy (place 6 []) ∷ []) (place 5 [])) last
 
 module _ {M : Type 1} {𝓤 : Ura M} (𝓛 : Logic 𝓤) (mem : Memory → SProp 𝓤) (run : Routine → Fun 𝓤) where
   -- the contracts that the proof cites
@@ -324,32 +321,6 @@ module _ {M : Type 1} {𝓤 : Ura M} (𝓛 : Logic 𝓤) (mem : Memory → SProp
           ∷ 8 ∷ []) $ free1 ! $ move ! (5 ∷ 6 ∷ []) $ free1 ! $ free0 ! $
           by ! (exits h w (is-handed n r h e f g))))))
 
-      -- the code after the first call, with the place n that has the machine value v
-      reads : (n : ℕ) (v : Val) → Is usize n (v ∷ []) → n ≡ first_of p z
-          → Sq 𝓛
-          (‵ (flft κ₀ q₀) ∷ (‵ (flft κ₁ q₁) ⊛ ‵ ftrue) ∷ ‵ AreaOwn ∷ ‵ RowOwn ∷ ‵ RowOwn ∷ ‵
-          (froom (ty_int w64) l₇ 0) ∷ ‵ (fdies (ty_int w64) l₇) ∷ ‵ (fat full_share (ty_int w64) l₆ 0 v) ∷ ‵
-          (fdies (ty_int w64) l₆) ∷ ‵ (froom R'.mir l₅ 0) ∷ ‵ (fdies R'.mir l₅) ∷ ‵
-          (fat full_share area-slice l₄ 0 av) ∷ ‵
-          (fdies area-slice l₄) ∷ ‵ (fat full_share row-slice l₃ 0 sv) ∷ ‵ (fdies row-slice l₃) ∷ ‵
-          (fat full_share P'.mir l₂ 0 pv) ∷ ‵ (fdies P'.mir l₂) ∷ ‵ (fat full_share S'.mir l₁ 0 zv) ∷ ‵
-          (fdies S'.mir l₁) ∷ ‵ (froom Hb'.mir l₀ 0) ∷ ‵ (fdies Hb'.mir l₀) ∷ [])
-          (runs C Λ En rest (at_ret En Post))
-      reads n v is e =
-          -- `at`
-          move ! (0 ∷ 3 ∷ []) $ use2 𝓛 (raw ((At 𝓛 mem run).pre (to_at n v))) (goes_at n v is) $
-          calls_at ! fm (At 𝓛 mem run) known_at_lem (to_at n v)
-          (and_then ! (load ! (from ! (stop !)) (look ! 12 refl))
-          (and_then ! (load ! (from ! (stop !)) (look ! 6 refl)) (no_more !))) (λ u.
-          use1 𝓛 (later (some (λ (r : Record). ((‵ (flft κ₀ q₀) ⊛ ‵ ftrue) ⊛ ‵ (Row.own_val r (u ∷ []))) ⊛ raw
-          (ensured 𝓛 at.ended (at.clauses 𝓛 mem run) (κ₀, tt) (there n) tt r)))) (id⊢ 𝓤 _) $ await ! tt $
-          pick ! (λ r.
-          split ! $ move ! (1 ∷ []) $ use1 𝓛 (raw (fact 𝓤 (Found n r))) (at-said n r) $ heard ! (Found n r)
-          (λ f. split ! $ move ! (1 ∷ []) $ peeks ! Row (Is Row) (shows 𝓛 Row) r (u ∷ []) (λ is'.
-          land ! (from ! (stop !)) (init ! 9 refl (row_typed 𝓛 r u is')) $ drop ! $
-          forget ! 6 refl $
-          hands n r u is' e f))))
-
     walk : ent 𝓤 (on_entry 𝓛 collect.signature κs (q₀, (q₁, tt)) a vals)
         (WpFn 𝓤 H C Λ code.function (zv ∷ pv ∷ sv ∷ av ∷ []) Post)
     walk =
@@ -379,7 +350,19 @@ module _ {M : Type 1} {𝓤 : Ura M} (𝓛 : Logic 𝓤) (mem : Memory → SProp
         split ! $ move ! (1 ∷ []) $ use1 𝓛 (raw (fact 𝓤 (n ≡ first_of p z))) (first_said n) $ heard ! (n ≡ first_of p z)
         (λ e. split ! $ drop ! $ peeks ! usize (Is usize) (shows 𝓛 usize) n (v ∷ []) (λ is.
         land ! (from ! (stop !)) (init ! 8 refl ((uint_Lawful 𝓛 w64).typed n _ is).0) $ drop ! $
-        reads l₀ l₁ l₂ l₃ l₄ l₅ l₆ l₇ n v is e))))))))))))
+        -- `at`
+        move ! (0 ∷ 3 ∷ []) $ use2 𝓛 (raw ((At 𝓛 mem run).pre (to_at n v))) (goes_at n v is) $
+        calls_at ! fm (At 𝓛 mem run) known_at_lem (to_at n v)
+        (and_then ! (load ! (from ! (stop !)) (look ! 12 refl))
+        (and_then ! (load ! (from ! (stop !)) (look ! 6 refl)) (no_more !))) (λ u.
+        use1 𝓛 (later (some (λ (r : Record). ((‵ (flft κ₀ q₀) ⊛ ‵ ftrue) ⊛ ‵ (Row.own_val r (u ∷ []))) ⊛ raw
+        (ensured 𝓛 at.ended (at.clauses 𝓛 mem run) (κ₀, tt) (there n) tt r)))) (id⊢ 𝓤 _) $ await ! tt $
+        pick ! (λ r.
+        split ! $ move ! (1 ∷ []) $ use1 𝓛 (raw (fact 𝓤 (Found n r))) (at-said n r) $ heard ! (Found n r)
+        (λ f. split ! $ move ! (1 ∷ []) $ peeks ! Row (Is Row) (shows 𝓛 Row) r (u ∷ []) (λ is'.
+        land ! (from ! (stop !)) (init ! 9 refl (row_typed 𝓛 r u is')) $ drop ! $
+        forget ! 6 refl $
+        hands l₀ l₁ l₂ l₃ l₄ l₅ l₆ l₇ n r u is' e f))))))))))))))))
 
 module _ {M : Type 1} {𝓤 : Ura M} (𝓛 : Logic 𝓤) (mem : Memory → SProp 𝓤)
     (run : Routine → Fun 𝓤) where

@@ -11,7 +11,7 @@ use seplogic.Ra.Ura.{Ura}
 use seplogic.Ra.TreeShare.{full_share}
 use mir.Syntax.{Ty, Body, named, erased, imm, mut, w8, w64, ty_int, ty_ref, deref, field, place, copy, seq, assign}
 use mir.Syntax.{call, return, addr_of, aggregate}
-use mir.Val.{Val, WT, has_ty, vint, vptr}
+use mir.Val.{Val, WT, has_ty, vint}
 use base.Logic.{SProp, ent, emp, via, fst∗, snd∗, ex_e, id⊢}
 use base.Fml.{Lft, GName, Share, Fml, ftrue, fat, froom, fdies, flft}
 use prog.Memory.{Memory}
@@ -114,7 +114,7 @@ stayed = (
   ),
 )
 
--- the types of the slices and of what they refer to, and the code after the first call, and from that call on
+-- the types of the slices and of what they refer to, and the code after the first call
 abbrev x-slice : Ty
 x-slice = slice_ty (ty_ref (named 0) imm (ty_int w8))
 
@@ -137,12 +137,6 @@ last = seq (assign (place 12 []) (addr_of (place 5 (field 0 ∷ deref R'.mir ∷
     (seq
     (call #station-queues·accepting (copy (place 1 []) ∷ copy (place 2 []) ∷ copy (place 8 []) ∷ []) (place 0 []))
     return)))
-
-abbrev rest : Body
-rest = seq
-    (call #station-records·deciding
-    (copy (place 1 []) ∷ copy (place 2 []) ∷ copy (place 3 []) ∷ copy (place 4 []) ∷ copy (place 9 []) ∷
-    copy (place 11 []) ∷ []) (place 7 [])) last
 
 module _ {M : Type 1} {𝓤 : Ura M} (𝓛 : Logic 𝓤) (mem : Memory → SProp 𝓤) (run : Routine → Fun 𝓤) where
   -- the contracts that the proof cites
@@ -406,45 +400,6 @@ module _ {M : Type 1} {𝓤 : Ura M} (𝓛 : Logic 𝓤) (mem : Memory → SProp
           by ! (exits c w zs.1.0 (l) long long'
           (is-submitted t t' zs.1.0 (l) c e f g))))))))))))
 
-      -- the code from the first call on
-      decides : Sq 𝓛
-          (‵ (flft κ₂ q₂) ∷ ‵ (flft κ₁ q₁) ∷ ‵ (flft κ₀ q₀) ∷ ‵ AreaOwn ∷ ‵ RowOwn ∷ ‵ XOwn ∷ ‵ XOwn ∷ ‵
-          (froom (slice_ty row-ref) l₁₃ 0) ∷ ‵ (fdies (slice_ty row-ref) l₁₃) ∷ ‵ (froom row-ref l₁₂ 0) ∷ ‵
-          (fdies row-ref l₁₂) ∷ ‵ (fat full_share (slice_ty octet-ref) l₁₁ 0 av) ∷ ‵ (fdies (slice_ty octet-ref) l₁₁) ∷ ‵
-          (fat full_share octet-ref l₁₀ 0 (vptr b' o')) ∷ ‵ (fdies octet-ref l₁₀) ∷ ‵
-          (fat full_share (ty_int w64) l₉ 0 (vint w64 (length ys))) ∷ ‵ (fdies (ty_int w64) l₉) ∷ ‵
-          (froom T'.mir l₈ 0) ∷ ‵ (fdies T'.mir l₈) ∷ ‵ (froom T'.mir l₇ 0) ∷ ‵ (fdies T'.mir l₇) ∷ ‵
-          (fat full_share area-slice l₆ 0 av) ∷ ‵ (fdies area-slice l₆) ∷ ‵ (fat full_share row-slice l₅ 0 sv) ∷ ‵
-          (fdies row-slice l₅) ∷ ‵ (fat full_share x-slice l₄ 0 xv) ∷ ‵ (fdies x-slice l₄) ∷ ‵
-          (fat full_share R'.mir l₃ 0 rv) ∷ ‵ (fdies R'.mir l₃) ∷ ‵ (fat full_share P'.mir l₂ 0 pv) ∷ ‵
-          (fdies P'.mir l₂) ∷ ‵ (fat full_share S'.mir l₁ 0 zv) ∷ ‵ (fdies S'.mir l₁) ∷ ‵ (froom Acc'.mir l₀ 0) ∷ ‵
-          (fdies Acc'.mir l₀) ∷ []) (runs C Λ En rest (at_ret En Post))
-      decides =
-          -- `deciding`, on [tokens 2, 1, 0; what the area, the row, x and x own; _13; …; _0; …]
-          move ! (2 ∷ 0 ∷ 5 ∷ 3 ∷ []) $ join ! $ use3 𝓛 (raw ((Decide 𝓛 mem run).pre to-decide)) goes-decide $
-          calls_at ! fm (Decide 𝓛 mem run) known-decide to-decide
-          (and_then ! (load ! (from ! (stop !)) (look ! 28 refl))
-          (and_then ! (load ! (from ! (stop !)) (look ! 26 refl))
-          (and_then ! (load ! (from ! (stop !)) (look ! 24 refl))
-          (and_then ! (load ! (from ! (stop !)) (look ! 22 refl))
-          (and_then ! (load ! (from ! (stop !)) (look ! 12 refl))
-          (and_then ! (load ! (from ! (stop !)) (look ! 8 refl)) (no_more !))))))) (λ u.
-          use1 𝓛 (later (some (λ (t : Taken).
-          ((‵ (flft κ₀ q₀) ⊛ ‵ (flft κ₂ q₂) ⊛ ‵ ftrue) ⊛ ‵ (Decision.own t (u ∷ []))) ⊛ raw
-          (ensured 𝓛 deciding.ended (deciding.clauses 𝓛 mem run) κt passed tt t)))) (id⊢ 𝓤 _) $ await ! tt $
-          pick ! (λ t.
-          split ! $ move ! (1 ∷ []) $ use1 𝓛 (some (λ (ws : Ends). ‵ (lasts deciding.ended κt passed ws) ⊛ raw
-          (fact 𝓤 (Took t ws.1.1.1.1.1.0)))) (id⊢ 𝓤 _) $ pick ! (λ ws.
-          split ! $ move ! (1 ∷ []) $ heard ! (Took t ws.1.1.1.1.1.0) (λ e.
-          fsplit ! $ drop ! $ fsplit ! $ drop ! $ fsplit ! $ drop ! $ fsplit ! $ drop ! $ fsplit ! $ drop ! $ fsplit ! $
-          move ! (1 ∷ []) $ drop ! $ fsplit ! $ move ! (1 ∷ []) $ feq_l ! (λ long'.
-          -- [the last area; the tokens and the decision; token 1; what the row and x own; _13; …; _0; …]
-          move ! (1 ∷ []) $ split ! $ move ! (1 ∷ []) $
-          peeks ! Decision (Is Decision) (shows 𝓛 Decision) t (u ∷ []) (λ is.
-          land ! (from ! (stop !)) (init ! 18 refl (decision-typed t u is)) $ drop ! $
-          forget ! 13 refl $ forget ! 11 refl $ forget ! 9 refl $
-          stores t u ws.1.1.1.1.1.0 is e long'))))))
-
     walk : Is (ShrSlice (named 0) κ₀ u8) x (xv ∷ [])
         → ent 𝓤 (on_entry 𝓛 submit.signature κs (q₀, (q₁, (q₂, tt))) a vals)
         (WpFn 𝓤 H C Λ code.function (zv ∷ pv ∷ rv ∷ xv ∷ sv ∷ av ∷ []) Post)
@@ -478,7 +433,30 @@ module _ {M : Type 1} {𝓤 : Ura M} (𝓛 : Logic 𝓤) (mem : Memory → SProp
         (‵ XOwn ⊛ ‵ XOwn) ((shr_slice_copy 𝓛 (named 0) κ₀ u8).twice x (xv ∷ [])) $ split ! $ move ! (2 ∷ []) $
         fsplit ! $ move ! (1 ∷ []) $ fsplit ! $ move ! (1 ∷ []) $ drop ! $ move ! (32 ∷ []) $ split ! $ move !
         (1 ∷ []) $ split ! $ move ! (1 ∷ []) $ split ! $ move ! (1 ∷ []) $ drop ! $
-        decides l₀ l₁ l₂ l₃ l₄ l₅ l₆ l₇ l₈ l₉ l₁₀ l₁₁ l₁₂ l₁₃))))))))))))))
+        -- `deciding`, on [tokens 2, 1, 0; what the area, the row, x and x own; _13; …; _0; …]
+        move ! (2 ∷ 0 ∷ 5 ∷ 3 ∷ []) $ join ! $ use3 𝓛 (raw ((Decide 𝓛 mem run).pre to-decide)) goes-decide $
+        calls_at ! fm (Decide 𝓛 mem run) known-decide to-decide
+        (and_then ! (load ! (from ! (stop !)) (look ! 28 refl))
+        (and_then ! (load ! (from ! (stop !)) (look ! 26 refl))
+        (and_then ! (load ! (from ! (stop !)) (look ! 24 refl))
+        (and_then ! (load ! (from ! (stop !)) (look ! 22 refl))
+        (and_then ! (load ! (from ! (stop !)) (look ! 12 refl))
+        (and_then ! (load ! (from ! (stop !)) (look ! 8 refl)) (no_more !))))))) (λ u.
+        use1 𝓛 (later (some (λ (t : Taken).
+        ((‵ (flft κ₀ q₀) ⊛ ‵ (flft κ₂ q₂) ⊛ ‵ ftrue) ⊛ ‵ (Decision.own t (u ∷ []))) ⊛ raw
+        (ensured 𝓛 deciding.ended (deciding.clauses 𝓛 mem run) κt passed tt t)))) (id⊢ 𝓤 _) $ await ! tt $
+        pick ! (λ t.
+        split ! $ move ! (1 ∷ []) $ use1 𝓛 (some (λ (ws : Ends). ‵ (lasts deciding.ended κt passed ws) ⊛ raw
+        (fact 𝓤 (Took t ws.1.1.1.1.1.0)))) (id⊢ 𝓤 _) $ pick ! (λ ws.
+        split ! $ move ! (1 ∷ []) $ heard ! (Took t ws.1.1.1.1.1.0) (λ e.
+        fsplit ! $ drop ! $ fsplit ! $ drop ! $ fsplit ! $ drop ! $ fsplit ! $ drop ! $ fsplit ! $ drop ! $ fsplit ! $
+        move ! (1 ∷ []) $ drop ! $ fsplit ! $ move ! (1 ∷ []) $ feq_l ! (λ long'.
+        -- [the last area; the tokens and the decision; token 1; what the row and x own; _13; …; _0; …]
+        move ! (1 ∷ []) $ split ! $ move ! (1 ∷ []) $
+        peeks ! Decision (Is Decision) (shows 𝓛 Decision) t (u ∷ []) (λ is.
+        land ! (from ! (stop !)) (init ! 18 refl (decision-typed t u is)) $ drop ! $
+        forget ! 13 refl $ forget ! 11 refl $ forget ! 9 refl $
+        stores l₀ l₁ l₂ l₃ l₄ l₅ l₆ l₇ l₈ l₉ l₁₀ l₁₁ l₁₂ l₁₃ t u ws.1.1.1.1.1.0 is e long'))))))))))))))))))))
 
 module _ {M : Type 1} {𝓤 : Ura M} (𝓛 : Logic 𝓤) (mem : Memory → SProp 𝓤)
     (run : Routine → Fun 𝓤) where

@@ -14,14 +14,9 @@ use Rattle.state.specs.declared.State.{State}
 use Rattle.state.specs.declared.Priority.TheVariants.{High, Low}
 use Rattle.state.specs.World.{Rows, World, Called, rows, queue_of, rows_of, world_of, state_of}
 use Rattle.state.specs.Refusals.{unlent, lawless}
-use Rattle.state.specs.Calls.{unless, given_to, resetting, reset}
-use Rattle.state.specs.World.{refuse}
-use Rattle.state.specs.Fresh.{present, absent, Fresh, begins_with, no_rows, fresh_core, fresh_world, count_of, drained}
-use Rattle.state.specs.Fresh.{cleared}
+use Rattle.state.specs.Calls.{no_rows, fresh_core, fresh_world, refuse, unless, count_of, drained, resetting, reset}
 use Rattle.state.specs.Told.{leaves, telling, adds, untold, reset_of}
-use Rattle.state.proofs.Refused.{told-cleared, unrefused}
-use Rattle.station_start.specs.declared.starting.Beginning.{Beginning}
-use Rattle.station_start.specs.Beginning.{fresh_of}
+use Rattle.state.proofs.Refused.{told-resetting, unrefused}
 use Rattle.station_start.specs.Refused.{refusal_of}
 
 -- ---- what is known where nothing is refused
@@ -36,25 +31,24 @@ unfolding refusal_of
 ready c masters started k high low e z =
     let a = passed _ _ _ (omega arith) (sym e ∙ z) in
     let b = passed _ _ _ (omega arith) a.1 in
-    let d = passed _ _ _ (omega arith) (passed _ _ _ (omega arith) b.1).1 in
+    let d = passed _ _ _ (omega arith) b.1 in
     record { lent-high = is_said a.0; lent-low = is_said b.0; lawful = is_said d.0 }
 
 -- ---- the call, by its refusal
-chain : (a b d e : Bool) (w : World) (x : Called)
-    → pick a (refuse 21 w) (pick b (refuse 21 w) (pick d (refuse 31 w) (pick e (refuse 29 w) x)))
-    ≡ unless (pick a 21 (pick b 21 (pick d 31 (pick e 29 0)))) w x
+chain : (a b d : Bool) (w : World) (x : Called)
+    → pick a (refuse 21 w) (pick b (refuse 21 w) (pick d (refuse 29 w) x))
+    ≡ unless (pick a 21 (pick b 21 (pick d 29 0))) w x
 unfolding pick same
-chain true b d e w x = refl
-chain false true d e w x = refl
-chain false false true e w x = refl
-chain false false false true w x = refl
-chain false false false false w x = refl
+chain true b d w x = refl
+chain false true d w x = refl
+chain false false true w x = refl
+chain false false false w x = refl
 
 module _ (s : State) (high low : Rows) {n : ℕ}
     (e : n ≡ refusal_of s.core s.masters.0 s.started.0 s.memory.kept high low) where
   reset_by : reset (world_of s high low) ≡ unless n (world_of s high low) (resetting (world_of s high low))
   unfolding reset refusal_of world_of
-  reset_by = rw e (chain _ _ _ _ _ _)
+  reset_by = rw e (chain _ _ _ _ _)
 
   pub reset-refused : (n ≡ 0 → ⊥)
       → leaves (record { refused = n; state = s }) high low [] ≡ reset_of (reset (world_of s high low))
@@ -65,31 +59,26 @@ module _ (s : State) (high low : Rows) {n : ℕ}
   reset-resets h = reset_by ∙ pick_true _ _ (same_true h)
 
 -- ---- afresh: the state is the same whatever rows stand by it
-abbrev begins : World → Fresh
-begins w = begins_with (given_to w) w.site.core.ts.0
-
-abbrev afresh : Fresh → World → Queue → Queue → State
-afresh f w h l =
+abbrev afresh : World → Queue → Queue → State
+afresh w h l =
     state_of
-    (fresh_world (fresh_core w.site.core.settings w.site.core.ts.0 f h l) f.masters w.points
-    w.memory.octets no_rows no_rows)
+    (fresh_world (fresh_core w.site.core.settings w.site.core.ts.0 w.started h l) w.started
+    w.points w.memory.octets no_rows no_rows)
 
 renewed : (w : World)
     → leaves
-    (record
-    { refused = 0; state = afresh (begins w) w (drained High w.site).answer (drained Low w.site).answer })
+    (record { refused = 0; state = afresh w (drained High w.site).answer (drained Low w.site).answer })
     (rows (drained High w.site).row (drained High w.site).area)
     (rows (drained Low w.site).row (drained Low w.site).area) []
     ≡ reset_of (resetting w)
-unfolding reset_of resetting cleared state_of fresh_world
+unfolding reset_of resetting state_of fresh_world
 renewed w =
     ap
     (λ (n : ℕ). leaves
-    (record
-    { refused = n; state = afresh (begins w) w (drained High w.site).answer (drained Low w.site).answer })
+    (record { refused = n; state = afresh w (drained High w.site).answer (drained Low w.site).answer })
     (rows (drained High w.site).row (drained High w.site).area)
     (rows (drained Low w.site).row (drained Low w.site).area) [])
-    (sym (unrefused (cleared (begins w) w).events (told-cleared (begins w) w).told))
+    (sym (unrefused (resetting w).events (told-resetting w).told))
 
 drained-high : (s : State) (high low : Rows) {k : ℕ} → k ≡ count_of High s.core
     → drain s.core.high.unconfirmed k (left s.core.high high.row high.area)
@@ -104,31 +93,26 @@ unfolding drained world_of queue_of rows_of
 drained-low s high low e = rw e
 
 by-drained : (w : World) (h l : Left Queue) → h ≡ drained High w.site → l ≡ drained Low w.site
-    → leaves (record { refused = 0; state = afresh (begins w) w h.answer l.answer }) (rows h.row h.area)
+    → leaves (record { refused = 0; state = afresh w h.answer l.answer }) (rows h.row h.area)
     (rows l.row l.area) []
     ≡ reset_of (resetting w)
 by-drained w h l e f = rw (e, f) (renewed w)
 
 -- the call, carried out, by what the code finds
-module _ (s : State) (high low : Rows) {n i j : ℕ} {h l : Queue} {hrow harea lrow larea : List ℕ} {y : Beginning}
-    {x : State} (e : n ≡ refusal_of s.core s.masters.0 s.started.0 s.memory.kept high low) (z : n ≡ 0)
+module _ (s : State) (high low : Rows) {n i j : ℕ} {h l : Queue} {hrow harea lrow larea : List ℕ} {x : State}
+    (e : n ≡ refusal_of s.core s.masters.0 s.started.0 s.memory.kept high low) (z : n ≡ 0)
     (a : i ≡ count_of High s.core)
     (b : left h hrow harea ≡ drain s.core.high.unconfirmed i (left s.core.high high.row high.area))
     (d : j ≡ count_of Low s.core)
     (f : left l lrow larea ≡ drain s.core.low.unconfirmed j (left s.core.low low.row low.area)) where
-  pub reset-renewed : fresh_of y
-      ≡ begins_with (pick s.core.learner.listens absent (present s.started.0)) s.core.ts.0
-      → x
+  pub reset-renewed : x
       ≡ state_of
-      (fresh_world (fresh_core s.core.settings s.core.ts.0 (fresh_of y) h l) y.masters.0 s.points.0
+      (fresh_world (fresh_core s.core.settings s.core.ts.0 s.started.0 h l) s.started.0 s.points.0
       s.memory.octets no_rows no_rows)
       → leaves (record { refused = 0; state = x }) (rows hrow harea) (rows lrow larea) []
       ≡ reset_of (reset (world_of s high low))
-  unfolding world_of given_to
-  reset-renewed m g =
-      ap
-      (λ (v : State). leaves (record { refused = 0; state = v }) (rows hrow harea) (rows lrow larea) [])
-      (g ∙ ap (λ (v : Fresh). afresh v (world_of s high low) h l) m)
-      ∙ by-drained (world_of s high low) (left h hrow harea) (left l lrow larea) (b ∙ drained-high s high low a)
-      (f ∙ drained-low s high low d)
-      ∙ ap reset_of (sym (reset-resets s high low e z))
+  unfolding world_of
+  reset-renewed g =
+      rw g
+      (by-drained (world_of s high low) (left h hrow harea) (left l lrow larea) (b ∙ drained-high s high low a)
+      (f ∙ drained-low s high low d) ∙ ap reset_of (sym (reset-resets s high low e z)))

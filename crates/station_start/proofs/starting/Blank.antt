@@ -5,7 +5,7 @@ use Rattle.choice.specs.Choice.{pick, less, same, said}
 use Rattle.times.specs.Times.{unruly_delays, unruly, outside}
 use Rattle.state.specs.World.{state_of}
 use Rattle.state.specs.Refusals.{unstartable, unstarted, lawless}
-use Rattle.state.specs.Fresh.{fresh_core, fresh_world}
+use Rattle.state.specs.Calls.{fresh_core, fresh_world}
 use Rattle.state.specs.Told.{blank_settings, blank}
 
 pub blank-lawless : lawless blank.core blank.masters.0 blank.started.0 blank.memory.kept ≡ true

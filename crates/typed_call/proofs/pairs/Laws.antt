@@ -1,6 +1,5 @@
 -- "Today's lines stay as they are and answer as they do": a line of no more words than a start, or a submit, of the base
--- has is one exactly if it was one, with the standard TSDI and the set of masters that it had (unless it has the word
--- `listen` in their place, which is no list of them), with the reference 0 and asking for the station's limit; and
+-- has is one exactly if it was one, with the standard TSDI, with the reference 0 and asking for the station's limit; and
 -- one of more words has its pairs in their order and no word more. Assumes nothing.
 use Prim.Native.Nat.{ℕ, ◌+◌, ◌≤◌}
 use mathlib.Core.Bool.{Bool, true, false}
@@ -17,16 +16,14 @@ use Rattle.typed.specs.Places.{LONG, named, numbers, queue, pair}
 use Rattle.typed.proofs.words.Last.{no_word}
 use Rattle.typed_call.specs.Table as Table
 use Rattle.typed_call.specs.Pairs.{w-tsdi, tsdi_of, start_pairs, w-ref, w-limit, ref_of, limit_of, asks_of, submit_pairs}
-use Rattle.state.specs.Fresh.{present}
-use Rattle.typed_call.specs.Script.{w-start, is_start, w-submit, is_request, is_submit}
-use Rattle.typed_call.specs.Operands.{settings_of, masters_of, listens_of, given_of, request_of}
-use Rattle.typed_call.proofs.operands.Given.{set_site, set-site, given-present}
+use Rattle.typed_call.specs.Script.{w-start, is_site, is_start, w-submit, is_request, is_submit}
+use Rattle.typed_call.specs.Operands.{settings_of, request_of}
 
 -- a start of the base: `start Tset Tqui minTSDR maxTSDR TTD TTR retry TS masters points high low` and no word more
 unfoldable pub base_start : List ℕ → Bool
 base_start l =
     pick (said (named l w-start Table.STARTWORDS))
-    (pick (said (numbers l Table.TSET Table.LONGS LONG)) (set_site l) false) false
+    (pick (said (numbers l Table.TSET Table.LONGS LONG)) (is_site l) false) false
 
 -- a submit of the base: `submit QUEUE SERVICE DA DSAP SSAP DATA` and no word more
 unfoldable pub base_submit : List ℕ → Bool
@@ -68,12 +65,12 @@ value_out : {p : Pair} (k n : ℕ) → p ≡ out k n → p.number.value ≡ n
 unfolding number
 value_out k n e = ap (λ (p : Pair). p.number.value) e
 
-pub as_before : (l : List ℕ) → words l ≤ Table.STARTWORDS → listens_of l ≡ false
-    → (is_start l ≡ base_start l) × ((settings_of l).tsdi.0 ≡ standard.tsdi.0) × (given_of l ≡ present (masters_of l))
+pub as_before : (l : List ℕ) → words l ≤ Table.STARTWORDS
+    → (is_start l ≡ base_start l) × ((settings_of l).tsdi.0 ≡ standard.tsdi.0)
 unfolding is_start base_start settings_of named
-as_before l h f =
+as_before l h =
     let e = tsdi-out l h in
-    (rw (start-ends l _ e, set-site l f) (turned _ _ _), value_out _ _ e, given-present l f)
+    (rw (start-ends l _ e) (turned _ _ _), value_out _ _ e)
 
 -- ---- submit: the line ends where it did, the reference is 0, and the station's limit is asked for
 ref-out : (l : List ℕ) → words l ≤ Table.SUBMITWORDS → ref_of l ≡ out Table.SUBMITWORDS 0

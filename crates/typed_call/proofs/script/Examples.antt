@@ -1,7 +1,6 @@
 -- Lines of the replay script's page and near them, by the definition alone. Assumes nothing.
 use mathlib.Core.List.{[], ◌∷◌}
 use mathlib.Core.Path.{◌≡◌, refl}
-use lib.ListN.{replicate}
 use Rattle.choice.specs.Choice.{pick, less, same, said}
 use Rattle.typed.specs.Words.{spaces, letters, begins, ends, ahead, begin_of, begun, words_behind, word, equal}
 use Rattle.typed.specs.Digits.{digit, all_digits, value_on, no_number, number, read_on, decimal, nibble, all_hex, dash}
@@ -12,9 +11,7 @@ use Rattle.typed.specs.Places.{is_masters, is_points}
 use Rattle.times.specs.Times.{standard}
 use Rattle.typed_call.specs.Pairs.{tsdi_of, start_pairs, ref_of, limit_of, submit_pairs}
 use Rattle.typed_call.specs.declared.script.Call.TheVariants.{Unknown, Start, Submit, Frame, Slot, Collect}
-use Rattle.state.specs.Fresh.{present, absent}
-use Rattle.typed_call.specs.Operands.{masters_of, listens_of, given_of}
-use Rattle.typed_call.specs.Script.{is_given, is_site, is_start, is_pointed, is_request, is_submit, is_heard, is_frame}
+use Rattle.typed_call.specs.Script.{is_site, is_start, is_pointed, is_request, is_submit, is_heard, is_frame}
 use Rattle.typed_call.specs.Script.{is_clocked, is_collect, plain_of, clocked_of, call_of}
 
 -- in turn:
@@ -52,7 +49,7 @@ pub lines : (call_of (115 ∷ (116 ∷ (97 ∷ (114 ∷ (116 ∷ (32 ∷ (50 ∷
 unfolding pick less same said spaces letters begins ends ahead begin_of begun words_behind word equal digit
     all_digits value_on no_number number read_on decimal nibble all_hex dash is_octets entry listed closing list_on list
     either queue room unserved service access called named numbers pair is_masters is_points standard tsdi_of start_pairs
-    ref_of limit_of submit_pairs listens_of is_given is_site is_start is_pointed is_request is_submit is_heard is_frame is_clocked is_collect plain_of clocked_of call_of
+    ref_of limit_of submit_pairs is_site is_start is_pointed is_request is_submit is_heard is_frame is_clocked is_collect plain_of clocked_of call_of
 lines = (refl, refl, refl, refl, refl, refl, refl, refl, refl, refl)
 
 -- lines with the pair of order 1, in turn:
@@ -69,7 +66,7 @@ pub pairs : (call_of (115 ∷ (116 ∷ (97 ∷ (114 ∷ (116 ∷ (32 ∷ (50 ∷
 unfolding pick less same said spaces letters begins ends ahead begin_of begun words_behind word equal digit
     all_digits value_on no_number number read_on decimal nibble all_hex dash is_octets entry listed closing list_on list
     either queue room unserved service access called named numbers pair is_masters is_points standard tsdi_of start_pairs
-    ref_of limit_of submit_pairs listens_of is_given is_site is_start is_pointed is_request is_submit is_heard is_frame is_clocked is_collect plain_of clocked_of call_of
+    ref_of limit_of submit_pairs is_site is_start is_pointed is_request is_submit is_heard is_frame is_clocked is_collect plain_of clocked_of call_of
 pairs = (refl, refl, refl, refl, refl)
 
 -- lines with the pairs of order 6, in turn:
@@ -90,30 +87,5 @@ pub submits : (call_of (115 ∷ (117 ∷ (98 ∷ (109 ∷ (105 ∷ (116 ∷ (32 
 unfolding pick less same said spaces letters begins ends ahead begin_of begun words_behind word equal digit
     all_digits value_on no_number number read_on decimal nibble all_hex dash is_octets entry listed closing list_on list
     either queue room unserved service access called named numbers pair is_masters is_points standard tsdi_of start_pairs
-    ref_of limit_of submit_pairs listens_of is_given is_site is_start is_pointed is_request is_submit is_heard is_frame is_clocked is_collect plain_of clocked_of call_of
+    ref_of limit_of submit_pairs is_site is_start is_pointed is_request is_submit is_heard is_frame is_clocked is_collect plain_of clocked_of call_of
 submits = (refl, refl, refl, refl, refl, refl, refl)
-
--- lines with the word of order 2, in turn:
--- "start 20 0 20 400 1 10000 1 2 listen none 4 4"
--- "start 20 0 20 400 1 10000 1 2 listen none 4 4 tsdi 300"
--- "start 20 0 20 400 1 10000 1 2 Listen none 4 4"
--- "start 20 0 20 400 1 10000 1 2 listen,5 none 4 4"
--- "start 20 0 20 400 1 10000 1 2 2,5 listen 4 4"
--- "start 20 0 20 400 1 10000 1 2 none 4 4 listen"
-pub listens : (call_of (115 ∷ (116 ∷ (97 ∷ (114 ∷ (116 ∷ (32 ∷ (50 ∷ (48 ∷ (32 ∷ (48 ∷ (32 ∷ (50 ∷ (48 ∷ (32 ∷ (52 ∷ (48 ∷ (48 ∷ (32 ∷ (49 ∷ (32 ∷ (49 ∷ (48 ∷ (48 ∷ (48 ∷ (48 ∷ (32 ∷ (49 ∷ (32 ∷ (50 ∷ (32 ∷ (108 ∷ (105 ∷ (115 ∷ (116 ∷ (101 ∷ (110 ∷ (32 ∷ (110 ∷ (111 ∷ (110 ∷ (101 ∷ (32 ∷ (52 ∷ (32 ∷ (52 ∷ []))))))))))))))))))))))))))))))))))))))))))))) ≡ Start)
-    × (call_of (115 ∷ (116 ∷ (97 ∷ (114 ∷ (116 ∷ (32 ∷ (50 ∷ (48 ∷ (32 ∷ (48 ∷ (32 ∷ (50 ∷ (48 ∷ (32 ∷ (52 ∷ (48 ∷ (48 ∷ (32 ∷ (49 ∷ (32 ∷ (49 ∷ (48 ∷ (48 ∷ (48 ∷ (48 ∷ (32 ∷ (49 ∷ (32 ∷ (50 ∷ (32 ∷ (108 ∷ (105 ∷ (115 ∷ (116 ∷ (101 ∷ (110 ∷ (32 ∷ (110 ∷ (111 ∷ (110 ∷ (101 ∷ (32 ∷ (52 ∷ (32 ∷ (52 ∷ (32 ∷ (116 ∷ (115 ∷ (100 ∷ (105 ∷ (32 ∷ (51 ∷ (48 ∷ (48 ∷ [])))))))))))))))))))))))))))))))))))))))))))))))))))))) ≡ Start)
-    × (call_of (115 ∷ (116 ∷ (97 ∷ (114 ∷ (116 ∷ (32 ∷ (50 ∷ (48 ∷ (32 ∷ (48 ∷ (32 ∷ (50 ∷ (48 ∷ (32 ∷ (52 ∷ (48 ∷ (48 ∷ (32 ∷ (49 ∷ (32 ∷ (49 ∷ (48 ∷ (48 ∷ (48 ∷ (48 ∷ (32 ∷ (49 ∷ (32 ∷ (50 ∷ (32 ∷ (76 ∷ (105 ∷ (115 ∷ (116 ∷ (101 ∷ (110 ∷ (32 ∷ (110 ∷ (111 ∷ (110 ∷ (101 ∷ (32 ∷ (52 ∷ (32 ∷ (52 ∷ []))))))))))))))))))))))))))))))))))))))))))))) ≡ Unknown)
-    × (call_of (115 ∷ (116 ∷ (97 ∷ (114 ∷ (116 ∷ (32 ∷ (50 ∷ (48 ∷ (32 ∷ (48 ∷ (32 ∷ (50 ∷ (48 ∷ (32 ∷ (52 ∷ (48 ∷ (48 ∷ (32 ∷ (49 ∷ (32 ∷ (49 ∷ (48 ∷ (48 ∷ (48 ∷ (48 ∷ (32 ∷ (49 ∷ (32 ∷ (50 ∷ (32 ∷ (108 ∷ (105 ∷ (115 ∷ (116 ∷ (101 ∷ (110 ∷ (44 ∷ (53 ∷ (32 ∷ (110 ∷ (111 ∷ (110 ∷ (101 ∷ (32 ∷ (52 ∷ (32 ∷ (52 ∷ []))))))))))))))))))))))))))))))))))))))))))))))) ≡ Unknown)
-    × (call_of (115 ∷ (116 ∷ (97 ∷ (114 ∷ (116 ∷ (32 ∷ (50 ∷ (48 ∷ (32 ∷ (48 ∷ (32 ∷ (50 ∷ (48 ∷ (32 ∷ (52 ∷ (48 ∷ (48 ∷ (32 ∷ (49 ∷ (32 ∷ (49 ∷ (48 ∷ (48 ∷ (48 ∷ (48 ∷ (32 ∷ (49 ∷ (32 ∷ (50 ∷ (32 ∷ (50 ∷ (44 ∷ (53 ∷ (32 ∷ (108 ∷ (105 ∷ (115 ∷ (116 ∷ (101 ∷ (110 ∷ (32 ∷ (52 ∷ (32 ∷ (52 ∷ [])))))))))))))))))))))))))))))))))))))))))))) ≡ Unknown)
-    × (call_of (115 ∷ (116 ∷ (97 ∷ (114 ∷ (116 ∷ (32 ∷ (50 ∷ (48 ∷ (32 ∷ (48 ∷ (32 ∷ (50 ∷ (48 ∷ (32 ∷ (52 ∷ (48 ∷ (48 ∷ (32 ∷ (49 ∷ (32 ∷ (49 ∷ (48 ∷ (48 ∷ (48 ∷ (48 ∷ (32 ∷ (49 ∷ (32 ∷ (50 ∷ (32 ∷ (110 ∷ (111 ∷ (110 ∷ (101 ∷ (32 ∷ (52 ∷ (32 ∷ (52 ∷ (32 ∷ (108 ∷ (105 ∷ (115 ∷ (116 ∷ (101 ∷ (110 ∷ []))))))))))))))))))))))))))))))))))))))))))))) ≡ Unknown)
-unfolding pick less same said spaces letters begins ends ahead begin_of begun words_behind word equal digit
-    all_digits value_on no_number number read_on decimal nibble all_hex dash is_octets entry listed closing list_on list
-    either queue room unserved service access called named numbers pair is_masters is_points standard tsdi_of start_pairs
-    ref_of limit_of submit_pairs listens_of is_given is_site is_start is_pointed is_request is_submit is_heard is_frame is_clocked is_collect plain_of clocked_of call_of
-listens = (refl, refl, refl, refl, refl, refl)
-
--- and what the first and the base's line "start 20 0 20 400 1 10000 1 2 - none 4 4" give: no set, and the empty one
-pub given : (given_of (115 ∷ (116 ∷ (97 ∷ (114 ∷ (116 ∷ (32 ∷ (50 ∷ (48 ∷ (32 ∷ (48 ∷ (32 ∷ (50 ∷ (48 ∷ (32 ∷ (52 ∷ (48 ∷ (48 ∷ (32 ∷ (49 ∷ (32 ∷ (49 ∷ (48 ∷ (48 ∷ (48 ∷ (48 ∷ (32 ∷ (49 ∷ (32 ∷ (50 ∷ (32 ∷ (108 ∷ (105 ∷ (115 ∷ (116 ∷ (101 ∷ (110 ∷ (32 ∷ (110 ∷ (111 ∷ (110 ∷ (101 ∷ (32 ∷ (52 ∷ (32 ∷ (52 ∷ []))))))))))))))))))))))))))))))))))))))))))))) ≡ absent)
-    × (given_of (115 ∷ (116 ∷ (97 ∷ (114 ∷ (116 ∷ (32 ∷ (50 ∷ (48 ∷ (32 ∷ (48 ∷ (32 ∷ (50 ∷ (48 ∷ (32 ∷ (52 ∷ (48 ∷ (48 ∷ (32 ∷ (49 ∷ (32 ∷ (49 ∷ (48 ∷ (48 ∷ (48 ∷ (48 ∷ (32 ∷ (49 ∷ (32 ∷ (50 ∷ (32 ∷ (45 ∷ (32 ∷ (110 ∷ (111 ∷ (110 ∷ (101 ∷ (32 ∷ (52 ∷ (32 ∷ (52 ∷ [])))))))))))))))))))))))))))))))))))))))) ≡ present (replicate 127 0))
-unfolding pick less same said spaces letters begins ends ahead begin_of word equal dash listed list masters_of listens_of given_of
-given = (refl, refl)

@@ -1,6 +1,6 @@
 -- `c_calls::queues::start` meets its contract: a refused start leaves the arrays, else they are filled as the state has
 -- them. Assumes nothing.
-use Rattle.c_core.proofs.handover.Renewing.{start-filled-with, start-refused}
+use Rattle.c_core.proofs.handover.Renewing.{start-filled, start-refused}
 use borrow.Author.Rules.{rules}
 use Rattle.c_calls.proofs.queues.start.Statement.{statement}
 use Rattle.c_calls.proofs.queues.start.Tie as tie
@@ -10,7 +10,7 @@ returns c =
     let settings : tie.After-settings-in = search depth 0 in
     let start : tie.After-start = search depth 0 in
     let then1 : tie.Then1 = search depth 0 in
-    start-refused _ _ _ _ _ _ _ _ _ _ (rw (← settings.settings-in.ensures) start.start.ensures)
+    start-refused _ _ _ _ _ _ _ _ _ (rw (← settings.settings-in.ensures) start.start.ensures)
     c.started.ensures
     then1.if1.taken
 
@@ -19,7 +19,7 @@ returns-2 c =
     let settings : tie.After-settings-in = search depth 0 in
     let start : tie.After-start = search depth 0 in
     let else1 : tie.Else1 = search depth 0 in
-    start-filled-with _ _ _ _ _ _ _ _ _ (rw (← settings.settings-in.ensures) start.start.ensures)
+    start-filled _ _ _ _ _ _ _ _ _ (rw (← settings.settings-in.ensures) start.start.ensures)
     c.started2.ensures
     else1.if1.left
 

@@ -9,5 +9,4 @@ unfolding flat_answer
 returns c = cc
 
 pub answer-spec : {M : Type 1} → statement M
-answer-spec =
-    tie.close (tie.spec (λ c κs. search rules) (λ c κs. search rules) (λ c κs. search rules) returns)
+answer-spec = tie.close (tie.spec (λ c κs. search rules) (λ c κs. search rules) returns)

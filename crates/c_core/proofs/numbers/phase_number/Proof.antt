@@ -24,12 +24,6 @@ returns-5 : tie.Need-returns-5
 unfolding phase_number
 returns-5 c = rw c.enum-told5.given.1
 
-returns-6 : tie.Need-returns-6
-unfolding phase_number
-returns-6 c =
-    let after-p : tie.After-p = search depth 0 in
-    rw after-p.p.given.1 c.stage-number.ensures
-
 pub phase-number-spec : {M : Type 1} → statement M
 phase-number-spec =
     tie.close
@@ -39,11 +33,8 @@ phase-number-spec =
     (λ c. search rules)
     (λ c. search rules)
     (λ c. search rules)
-    (λ c. search rules)
-    (λ c κs. search rules)
     returns
     returns-2
     returns-3
     returns-4
-    returns-5
-    returns-6)
+    returns-5)

@@ -24,19 +24,5 @@ returns-5 : tie.Need-returns-5
 unfolding phase_of
 returns-5 c = search picks depth 20
 
-returns-6 : tie.Need-returns-6
-unfolding phase_of
-returns-6 c = search picks depth 20
-
-returns-7 : tie.Need-returns-7
-unfolding phase_of
-returns-7 c = search picks depth 20
-
-returns-8 : tie.Need-returns-8
-unfolding phase_of
-returns-8 c = search picks depth 20
-
 pub phase-of-spec : {M : Type 1} → statement M
-phase-of-spec =
-    tie.close
-    (tie.spec returns returns-2 returns-3 returns-4 returns-5 returns-6 returns-7 returns-8)
+phase-of-spec = tie.close (tie.spec returns returns-2 returns-3 returns-4 returns-5)

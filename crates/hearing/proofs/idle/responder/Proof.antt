@@ -6,9 +6,8 @@ use Rattle.hearing.proofs.idle.responder.Tie as tie
 
 returns : tie.Need-returns
 returns c =
-    let after-wait-for : tie.After-wait-for = search depth 0 in
     let start : tie.Start = search depth 0 in
-    handed-over start.args.c c.kind-in.ensures after-wait-for.wait-for.ensures
+    handed-over start.args.c c.wait-for.ensures
 
 pub responder-spec : {M : Type 1} → statement M
-responder-spec = tie.close (tie.spec (λ c κs. search rules) (λ c κs. search rules) returns)
+responder-spec = tie.close (tie.spec (λ c κs. search rules) returns)

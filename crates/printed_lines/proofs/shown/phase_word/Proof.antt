@@ -1,4 +1,4 @@
--- `printed_lines::shown::phase_word` meets its contract: the word of the case, outside the ring that of the stage.
+-- `printed_lines::shown::phase_word` meets its contract: the word of the case.
 -- Assumes nothing.
 use borrow.Author.Rules.{rules}
 use Rattle.printed_lines.proofs.shown.phase_word.Statement.{statement}
@@ -27,12 +27,6 @@ returns-5 : tie.Need-returns-5
 unfolding phase_word
 returns-5 c = rw c.enum-told5.given.1 (refl, omega arith)
 
-returns-6 : tie.Need-returns-6
-unfolding phase_word
-returns-6 c =
-    let after-p : tie.After-p = search depth 0 in
-    rw after-p.p.given.1 c.stage-word.ensures
-
 pub phase-word-spec : {M : Type 1} → statement M
 phase-word-spec =
     tie.close
@@ -42,11 +36,8 @@ phase-word-spec =
     (λ c. search rules)
     (λ c. search rules)
     (λ c. search rules)
-    (λ c. search rules)
-    (λ c κs. tt)
     returns
     returns-2
     returns-3
     returns-4
-    returns-5
-    returns-6)
+    returns-5)

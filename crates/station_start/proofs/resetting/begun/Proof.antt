@@ -1,5 +1,5 @@
 -- `station_start::resetting::begun` meets its contract. Assumes nothing.
-use Rattle.state.specs.Fresh.{begun}
+use Rattle.state.specs.Calls.{begun}
 use borrow.Author.Rules.{rules}
 use Rattle.station_start.proofs.resetting.begun.Statement.{statement}
 use Rattle.station_start.proofs.resetting.begun.Tie as tie
@@ -24,10 +24,6 @@ returns-5 : tie.Need-returns-5
 unfolding begun
 returns-5 c = rw c.enum-told5.given.1
 
-returns-6 : tie.Need-returns-6
-unfolding begun
-returns-6 c = rw c.enum-told6.given.1
-
 pub begun-spec : {M : Type 1} → statement M
 begun-spec =
     tie.close
@@ -37,10 +33,8 @@ begun-spec =
     (λ c. search rules)
     (λ c. search rules)
     (λ c. search rules)
-    (λ c. search rules)
     returns
     returns-2
     returns-3
     returns-4
-    returns-5
-    returns-6)
+    returns-5)

@@ -1,5 +1,5 @@
 -- `station_start::resetting::count_of` meets its contract. Assumes nothing.
-use Rattle.state.specs.Fresh.{count_of}
+use Rattle.state.specs.Calls.{count_of}
 use borrow.Author.Rules.{rules}
 use Rattle.station_start.proofs.resetting.count_of.Statement.{statement}
 use Rattle.station_start.proofs.resetting.count_of.Tie as tie

@@ -1,5 +1,5 @@
 -- `station_start::resetting::of_high` meets its contract. Assumes nothing.
-use Rattle.state.specs.Fresh.{sendings_of}
+use Rattle.state.specs.Calls.{sendings_of}
 use borrow.Author.Rules.{rules}
 use Rattle.station_start.proofs.resetting.of_high.Statement.{statement}
 use Rattle.station_start.proofs.resetting.of_high.Tie as tie

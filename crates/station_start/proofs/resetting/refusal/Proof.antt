@@ -21,10 +21,6 @@ returns-4 : tie.Need-returns-4
 unfolding refusal_of
 returns-4 c = search (picks, asked) depth 20
 
-returns-5 : tie.Need-returns-5
-unfolding refusal_of
-returns-5 c = search (picks, asked) depth 20
-
 pub refusal-spec : {M : Type 1} → statement M
 refusal-spec =
     tie.close
@@ -35,6 +31,4 @@ refusal-spec =
     returns-2
     (λ c κs. search rules)
     returns-3
-    (λ c κs. search rules)
-    returns-4
-    returns-5)
+    returns-4)

@@ -53,12 +53,11 @@ returns-2 c =
     let after-count-of2 : tie.After-count-of2 = search depth 0 in
     let after-drain : tie.After-drain = search depth 0 in
     let after-count-of : tie.After-count-of = search depth 0 in
-    let after-afresh : tie.After-afresh = search depth 0 in
     let else1 : tie.Else1 = search depth 0 in
     let after-refusal : tie.After-refusal = search depth 0 in
     reset-renewed _ _ _ after-refusal.refusal.ensures else1.if1.left after-count-of.count_of.ensures
     after-drain.drain.ensures after-count-of2.count-of2.ensures after-drain2.drain2.ensures
-    after-afresh.afresh.ensures c.fresh.ensures
+    c.fresh.ensures
 
 pub reset-spec : {M : Type 1} → statement M
 reset-spec =
@@ -70,7 +69,6 @@ reset-spec =
     (λ c. search rules)
     (λ c. search rules)
     returns
-    (λ c κs. search rules)
     (λ c κs. search rules)
     drain-requires
     (λ c κs. search rules)

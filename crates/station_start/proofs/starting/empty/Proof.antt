@@ -1,5 +1,5 @@
 -- `station_start::starting::empty` meets its contract. Assumes nothing.
-use Rattle.state.specs.Fresh.{empty_queue}
+use Rattle.state.specs.Calls.{empty_queue}
 use borrow.Author.Rules.{rules}
 use Rattle.station_start.proofs.starting.empty.Statement.{statement}
 use Rattle.station_start.proofs.starting.empty.Tie as tie
