@@ -13,7 +13,7 @@ use state::{Accepted, Core, HandedBack, Heard, Kept, Marks, Memory, Points, Rene
 
 // What submit answers: the refusal or 0, and the place taken.
 #[repr(C)]
-#[derive(Drop)]
+#[derive(Clone, Copy)]
 pub struct FlatAccepted {
     pub refused: u8,
     pub place: u8,
@@ -22,7 +22,7 @@ pub struct FlatAccepted {
 
 // What collect answers: the refusal or 0, and the record handed back with its place's number, its reference last.
 #[repr(C)]
-#[derive(Drop)]
+#[derive(Clone, Copy)]
 pub struct FlatCollected {
     pub refused: u8,
     pub place: u8,
@@ -41,7 +41,7 @@ pub struct FlatCollected {
 
 // What start and reset answer: the refusal or 0.
 #[repr(C)]
-#[derive(Drop)]
+#[derive(Clone, Copy)]
 pub struct FlatRenewed {
     pub refused: u8,
     pub core: Numbers,
@@ -50,7 +50,7 @@ pub struct FlatRenewed {
 // What frame, sent and slot answer: the refusal or 0, how many octets to send and after which wait, and what is
 // indicated.
 #[repr(C)]
-#[derive(Drop)]
+#[derive(Clone, Copy)]
 pub struct FlatAnswer {
     pub refused: u8,
     pub wait: u32,

@@ -14,7 +14,7 @@ use times::{Count, Settings};
 
 // A station's settings.
 #[repr(C)]
-#[derive(Drop)]
+#[derive(Clone, Copy)]
 pub struct FlatSettings {
     pub tset: u32,
     pub tqui: u32,
@@ -58,7 +58,7 @@ pub struct Numbers {
 // A request that is shown: indicated is 1, and its fields and where its data lie follow; or nothing, and indicated is
 // 0.
 #[repr(C)]
-#[derive(Drop)]
+#[derive(Clone, Copy)]
 pub struct FlatIndication {
     pub indicated: u8,
     pub control: u8,

@@ -8,7 +8,7 @@ use frame::{Address, Answer, Fields, Head, Part, Point, Written};
 
 // What was read: refused is 0 or the refusal; form is 1 for a token, 2 for a short acknowledgement, 3 for a frame.
 #[repr(C)]
-#[derive(Drop)]
+#[derive(Clone, Copy)]
 pub struct FlatFrame {
     pub refused: u8,
     pub form: u8,
@@ -23,7 +23,7 @@ pub struct FlatFrame {
 
 // What was written: refused is 0 or the refusal, and count the octets written.
 #[repr(C)]
-#[derive(Drop)]
+#[derive(Clone, Copy)]
 pub struct FlatWritten {
     pub refused: u8,
     pub count: usize,

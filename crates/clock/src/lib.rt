@@ -1,11 +1,13 @@
 // The bit clock: the time elapsed between two readings of it, and the time that is left. Nothing here knows a setting.
 // Assumes nothing.
+#![tactic(auto)]
+
 ghost use Rattle.std.specs.Prelude.{◌≡◌};
 ghost use Rattle.clock.specs.Clock.{time_left};
 ghost use Rattle.clock.specs.Clock.{elapsed as clock_elapsed};
 
 // A number of bit times, and a reading of the bit clock.
-#[derive(Drop)]
+#[derive(Clone, Copy)]
 pub struct BitTime(pub u32);
 
 // Later minus earlier on the 32-bit bit clock.

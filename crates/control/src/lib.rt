@@ -1,5 +1,7 @@
 // FC, the control octet of a frame: what it asks or replies, and which octets are listed. The frames that carry it are
 // left to the crates above. Assumes nothing.
+#![tactic(auto)]
+
 ghost use Rattle.std.specs.Prelude.{◌≡◌, ◌<◌, ◌/◌, ◌%◌, false};
 ghost use Rattle.choice.specs.Choice.{pick, same};
 ghost use Rattle.control.specs.Control.{service_number, service_of, code_number, code_of, type_number, type_of};
@@ -10,7 +12,7 @@ ghost use Rattle.control.specs.Control.{bit as control_bit, fc as control_fc, co
 ghost use Rattle.control.specs.Control.{lawful as control_lawful, listed as control_listed, sdn as control_sdn};
 
 // What a request asks for.
-#[derive(Drop)]
+#[derive(Clone, Copy)]
 pub enum Service {
     SdaLow,
     SdnLow,
@@ -24,7 +26,7 @@ pub enum Service {
 }
 
 // What a reply says.
-#[derive(Drop)]
+#[derive(Clone, Copy)]
 pub enum Code {
     Ok,
     Ue,
@@ -38,7 +40,7 @@ pub enum Code {
 }
 
 // What kind of station replies.
-#[derive(Drop)]
+#[derive(Clone, Copy)]
 pub enum Kind {
     Slave,
     NotReady,
@@ -47,7 +49,7 @@ pub enum Kind {
 }
 
 // FC: a request with its frame count bit and that bit's validity, or a reply.
-#[derive(Drop)]
+#[derive(Clone, Copy)]
 pub enum Control {
     Request {
         service: Service,

@@ -1,5 +1,7 @@
 // The fields of a frame and its checksum FCS; the definitions of the whole frame table but FC are in specs/. Reading
 // and writing are left to the crates above. Assumes nothing.
+#![tactic(auto)]
+
 ghost use Rattle.std.specs.Prelude.{◌≡◌, ◌≤◌};
 ghost use Rattle.frame.specs.Access.{access_of, point_of};
 ghost use Rattle.frame.specs.Format.{fcs as format_fcs, misdirected as format_misdirected};
@@ -7,15 +9,15 @@ ghost use Rattle.frame.specs.Format.{fcs as format_fcs, misdirected as format_mi
 use control::Control;
 
 // A station address: 0..126, and 127 for all.
-#[derive(Drop)]
+#[derive(Clone, Copy)]
 pub struct Address(pub u8);
 
 // An access point number.
-#[derive(Drop)]
+#[derive(Clone, Copy)]
 pub struct Point(pub u8);
 
 // The access point of one side of a frame, or none.
-#[derive(Drop)]
+#[derive(Clone, Copy)]
 pub enum Access {
     None,
     At(Point),
@@ -25,7 +27,7 @@ pub enum Access {
 pub const NONE: u8 = 255;
 
 // The fields of a frame that has a control octet, but for its data.
-#[derive(Drop)]
+#[derive(Clone, Copy)]
 pub struct Head {
     pub destination: Address,
     pub to: Access,
@@ -35,7 +37,7 @@ pub struct Head {
 }
 
 // The fields of a frame of any form, but for its data.
-#[derive(Drop)]
+#[derive(Clone, Copy)]
 pub enum Fields {
     Token {
         destination: Address,
@@ -46,21 +48,21 @@ pub enum Fields {
 }
 
 // Where a frame's data lie in the string that was read.
-#[derive(Drop)]
+#[derive(Clone, Copy)]
 pub struct Part {
     pub start: usize,
     pub count: usize,
 }
 
 // What reading a string of octets gives: the refusal, or the fields and where the data lie.
-#[derive(Drop)]
+#[derive(Clone, Copy)]
 pub enum Answer {
     Refused(u8),
     Read(Fields, Part),
 }
 
 // What writing a frame gives: the refusal, or the count of the octets written.
-#[derive(Drop)]
+#[derive(Clone, Copy)]
 pub enum Written {
     Refused(u8),
     Count(usize),

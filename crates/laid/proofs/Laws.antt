@@ -6,7 +6,7 @@ use native.Mathlib.Omega.{arith}
 use native.Mathlib.Nat.{zero-add, add-zero, add_assoc}
 use lib.ListN.{length, take, drop, length-append, length-drop, take-append-drop, drop_of_length-le}
 use lib.Seq.{length-take-le, take_all, take-length, take_at, drop_at, drop-drop, sets, sets-eq}
-use borrow.Rule.Slice.PartMut.{put_mid}
+use borrow.Rule.Slice.PartMut.{put_mid, Post-is}
 use Rattle.laid.specs.Laid.{laid, Lays}
 
 -- nothing laid, and a piece laid at the start
@@ -41,15 +41,10 @@ pub laid-behind : (l m : List ℕ) (i j : ℕ) (u w : List ℕ)
     → i + length u ≤ length l → j ≡ i + length u → m ≡ laid l i u → laid m j w ≡ laid l i (u ++ w)
 laid-behind l m i j u w h e f = rw (e, f) (laid-laid l i u w h)
 
--- x copied into the part from i on: p is what `bytes::copy` left of that part
-pub laid-copied : (l : List ℕ) (i : ℕ) (x p : List ℕ) → i + length x ≤ length l
-    → p ≡ take (length x) x ++ drop (length x) (take (length l - i) (drop i l))
-    → put_mid i (length l - i) l p ≡ laid l i x
+-- x copied over the part of its length from i on
+pub laid-copied : (l : List ℕ) (i : ℕ) (x : List ℕ) → put_mid i (i + length x - i) l x ≡ laid l i x
 unfolding laid
-laid-copied l i x p h e =
-    let a : length (drop i l) ≤ length l - i = omega (arith, length-drop i l) in
-    rw (e, take-length x, take_all (length l - i) (drop i l) a, drop_of_length-le (drop i l) a)
-    (rw (append-nil (x ++ drop (length x) (drop i l)), drop-drop (length x) i l))
+laid-copied l i x = ap (λ (q : List ℕ). take i l ++ (x ++ q)) (Post-is i (i + length x) l (omega arith))
 
 -- laying keeps the length
 pub length-laid : (l : List ℕ) (i : ℕ) (u : List ℕ) → i + length u ≤ length l → length (laid l i u) ≡ length l

@@ -1,5 +1,7 @@
 // Octets laid over a lent output: what every step of a writer leaves in it (specs/), the laws by which steps in a row
 // are one (proofs/), and the one function that lays a given piece. Assumes nothing.
+#![tactic(auto)]
+
 ghost use Rattle.std.specs.Prelude.{◌+◌, ◌≤◌, length};
 ghost use Rattle.laid.specs.Laid.{Lays};
 
@@ -9,6 +11,6 @@ pub fn lay(piece: &[u8], out: &mut [u8], at: usize) -> usize
     ensures { Lays out.old at piece.now (length piece.now) result
         out.new }
 {
-    bytes::copy(piece, &mut out[at..]);
+    out[at..at + piece.len()].copy_from_slice(piece);
     at + piece.len()
 }

@@ -15,7 +15,7 @@ pub const PLACES: usize = 64;
 pub const AREA: usize = 246;
 
 // A queue: the places of its row, the first place in use, and how many requests are confirmed and not.
-#[derive(Drop)]
+#[derive(Clone, Copy)]
 pub struct Queue {
     pub places: u8,
     pub first: u8,
@@ -24,7 +24,7 @@ pub struct Queue {
 }
 
 // What submit decides: the refusal or 0, the place taken, the record to stand there, and the queue.
-#[derive(Drop)]
+#[derive(Clone, Copy)]
 pub struct Taken {
     pub refused: u8,
     pub place: u8,
@@ -33,7 +33,7 @@ pub struct Taken {
 }
 
 // What collect hands back: the refusal, or the place's number, its record, and the queue with the place free.
-#[derive(Drop)]
+#[derive(Clone, Copy)]
 pub enum Collected {
     Refused(u8),
     Handed {

@@ -1,5 +1,7 @@
 // The frame reader: the fields of a string of octets and where its data lie, or the first refusal of 1..11. Total on
 // every string. The definitions are the frame crate's. Assumes nothing.
+#![tactic(auto)]
+
 ghost use Rattle.std.specs.Prelude.{◌≡◌, ◌+◌, ◌≤◌, length};
 ghost use Rattle.frame.specs.Reading.{read_body, read_token, read_short};
 ghost use Rattle.frame.specs.Reading.{part as reading_part, mismeasured as reading_mismeasured, read as reading_read};

@@ -1,5 +1,7 @@
 // A request record: its octets at a place of a row, and what submit refuses in one. Nothing here knows a queue.
 // Assumes nothing.
+#![tactic(auto)]
+
 ghost use Rattle.std.specs.Prelude.{◌≡◌, ◌+◌, ◌*◌, ◌≤◌, length};
 ghost use Rattle.choice.specs.Choice.{pick, less, same, either};
 ghost use Rattle.laid.specs.Laid.{laid};
@@ -17,7 +19,7 @@ use frame::{Address, Point};
 // request waits, then the reply's code, 16 NA or 17 DS; the count is that of its sendings. The reference is the
 // caller's, and nothing here reads it; the limit is how often the request is sent again at most, its own, or the
 // station's where the record asks for that.
-#[derive(Drop)]
+#[derive(Clone, Copy)]
 pub struct Record {
     pub service: u8,
     pub destination: Address,

@@ -1,5 +1,7 @@
 // The ring: the set of masters, who is in it, enters it and leaves it, and the search for the next and the previous
 // one, one address after another. Nothing here knows a token. Assumes nothing.
+#![tactic(auto)]
+
 ghost use Rattle.std.specs.Prelude.{◌≡◌, ◌<◌, ◌≤◌, set};
 ghost use Rattle.ring.specs.Ring.{on as ring_on, seek as ring_seek, next_of, previous_of, enter as ring_enter};
 ghost use Rattle.ring.specs.Ring.{remove as ring_remove, member as ring_member};

@@ -15,7 +15,7 @@ pub const UPDATE: usize = 244;
 pub const NOBODY: u8 = 127;
 
 // The phases: Idle, Reply awaited, SDN going out, Pass checked, Pass to self.
-#[derive(Drop)]
+#[derive(Clone, Copy)]
 pub enum Phase {
     Idle,
     Awaited,
@@ -25,7 +25,7 @@ pub enum Phase {
 }
 
 // The two queues.
-#[derive(Drop)]
+#[derive(Clone, Copy)]
 pub enum Priority {
     High,
     Low,
@@ -33,7 +33,7 @@ pub enum Priority {
 
 // What the station is doing: its phase, the queue being served, the sendings so far of what is being sent, and whether
 // its last sending in the hold was an SDN.
-#[derive(Drop)]
+#[derive(Clone, Copy)]
 pub struct Doing {
     pub phase: Phase,
     pub served: Priority,
@@ -42,7 +42,7 @@ pub struct Doing {
 }
 
 // The acceptance of this hold and the one before, and how many holds began since the start or reset, counted to two.
-#[derive(Drop)]
+#[derive(Clone, Copy)]
 pub struct Hold {
     pub acceptance: BitTime,
     pub before: BitTime,
@@ -50,7 +50,7 @@ pub struct Hold {
 }
 
 // What every decision goes by. The stranger is the sender of a first token, 127 for none.
-#[derive(Drop)]
+#[derive(Clone, Copy)]
 pub struct Core {
     pub settings: Settings,
     pub ts: Address,
@@ -97,14 +97,14 @@ pub struct State {
 }
 
 // A request that the station shows its caller: its fields, and where its data lie in the frame.
-#[derive(Drop)]
+#[derive(Clone, Copy)]
 pub enum Indication {
     None,
     Shown(Head, Part),
 }
 
 // What an act on the site leaves: the core, how many octets to send, and after which wait.
-#[derive(Drop)]
+#[derive(Clone, Copy)]
 pub struct Moved {
     pub core: Core,
     pub length: usize,
@@ -113,7 +113,7 @@ pub struct Moved {
 
 // What is answered to a request: what the memory keeps but for the octets, how many octets to send and after which
 // wait, and what is indicated.
-#[derive(Drop)]
+#[derive(Clone, Copy)]
 pub struct Spoken {
     pub kept: Kept,
     pub length: usize,
@@ -123,7 +123,7 @@ pub struct Spoken {
 
 // What frame, sent and slot answer where the arrays of the state are lent: the refusal or 0, the core and what the
 // memory keeps, how many octets to send and after which wait, and what is indicated.
-#[derive(Drop)]
+#[derive(Clone, Copy)]
 pub struct Heard {
     pub refused: u8,
     pub core: Core,
@@ -135,7 +135,7 @@ pub struct Heard {
 
 // What frame, sent and slot answer: the refusal or 0, the state, how many octets to send and after which wait, and what
 // is indicated.
-#[derive(Drop)]
+#[derive(Clone, Copy)]
 pub struct Answer {
     pub refused: u8,
     pub state: State,
@@ -145,7 +145,7 @@ pub struct Answer {
 }
 
 // What submit answers: the refusal or 0, the state, and the place taken.
-#[derive(Drop)]
+#[derive(Clone, Copy)]
 pub struct Accepted {
     pub refused: u8,
     pub state: State,
@@ -153,14 +153,14 @@ pub struct Accepted {
 }
 
 // What start and reset answer: the refusal or 0, and the state; where start refuses, a blank one that no call accepts.
-#[derive(Drop)]
+#[derive(Clone, Copy)]
 pub struct Renewed {
     pub refused: u8,
     pub state: State,
 }
 
 // What collect answers: the refusal or 0, the state, and the record handed back with its place's number.
-#[derive(Drop)]
+#[derive(Clone, Copy)]
 pub struct HandedBack {
     pub refused: u8,
     pub state: State,
@@ -169,7 +169,7 @@ pub struct HandedBack {
 }
 
 // How a request ends: with a plausible reply's status, lost, or, an SDN, gone out.
-#[derive(Drop)]
+#[derive(Clone, Copy)]
 pub enum Outcome {
     Replied(u8),
     Lost,
@@ -178,7 +178,7 @@ pub enum Outcome {
 
 // What a good frame is to the request whose reply is awaited: a plausible reply with its status, a reply in vain, or a
 // request or token.
-#[derive(Drop)]
+#[derive(Clone, Copy)]
 pub enum Verdict {
     Plausible(u8),
     Vain,
@@ -186,14 +186,14 @@ pub enum Verdict {
 }
 
 // What a hold goes on with: a queue's first request, or the pass of the token.
-#[derive(Drop)]
+#[derive(Clone, Copy)]
 pub enum Choice {
     Serve(Priority),
     PassOn,
 }
 
 // What the answering side answers as: its TS, its station type, and the wait before each reply.
-#[derive(Drop)]
+#[derive(Clone, Copy)]
 pub struct Responder {
     pub ts: Address,
     pub kind: Kind,
@@ -201,7 +201,7 @@ pub struct Responder {
 }
 
 // What a request's service asks of the answering side: as an SDA, as an SRD, an indication, the status, or nothing.
-#[derive(Drop)]
+#[derive(Clone, Copy)]
 pub enum Asks {
     Sda,
     Srd,
@@ -211,14 +211,14 @@ pub enum Asks {
 }
 
 // What is given to a request: a short acknowledgement, or a reply with a code.
-#[derive(Drop)]
+#[derive(Clone, Copy)]
 pub enum Given {
     Acknowledged,
     Coded(Code),
 }
 
 // The answer to a new SDA or SRD, and whether it is indicated.
-#[derive(Drop)]
+#[derive(Clone, Copy)]
 pub struct New {
     pub given: Given,
     pub indicated: bool,

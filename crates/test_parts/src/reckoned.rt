@@ -12,7 +12,7 @@ use times::{Count, Reckoned, Sending, Settings, Times};
 
 // The times that follow from settings, and the waits: refused is 0 or the refusal, and then all others are 0.
 #[repr(C)]
-#[derive(Drop)]
+#[derive(Clone, Copy)]
 pub struct FlatTimes {
     pub refused: u8,
     pub tsm: u32,

@@ -13,7 +13,7 @@ use request::Record;
 
 // What a call on a row answers: the refusal or 0, the place that submit took, and the queue's counts.
 #[repr(C)]
-#[derive(Drop)]
+#[derive(Clone, Copy)]
 pub struct FlatQueue {
     pub refused: u8,
     pub place: u8,
@@ -24,7 +24,7 @@ pub struct FlatQueue {
 
 // What collect answers: the refusal, or 0 with the record, its place's number and the queue's counts.
 #[repr(C)]
-#[derive(Drop)]
+#[derive(Clone, Copy)]
 pub struct FlatCollected {
     pub refused: u8,
     pub place: u8,

@@ -1,5 +1,7 @@
 // The times of a station: its settings, what follows from them and the wait of each sending. Nothing here knows a phase
 // or a frame. Assumes nothing.
+#![tactic(auto)]
+
 ghost use Rattle.std.specs.Prelude.{◌≡◌, ◌+◌, ◌≤◌, max};
 ghost use Rattle.times.specs.Times.{Small, unruly_delays, too_long, times_of, reckoned, wait_of};
 ghost use Rattle.times.specs.Times.{outside as times_outside, tsm as times_tsm, tid1 as times_tid1};
@@ -10,11 +12,11 @@ use clock::BitTime;
 use frame::Address;
 
 // A count.
-#[derive(Drop)]
+#[derive(Clone, Copy)]
 pub struct Count(pub u32);
 
 // A station's settings, as offered: each is wide enough that an out-of-rule value can be refused.
-#[derive(Drop)]
+#[derive(Clone, Copy)]
 pub struct Settings {
     pub tset: BitTime,
     pub tqui: BitTime,
@@ -27,7 +29,7 @@ pub struct Settings {
 }
 
 // What is being sent, as its wait goes by it: a reply, a request or token after an SDN of this hold, or any other.
-#[derive(Drop)]
+#[derive(Clone, Copy)]
 pub enum Sending {
     Reply,
     AfterSdn,
@@ -54,7 +56,7 @@ pub fn standard() -> Settings
 }
 
 // The times that follow from settings.
-#[derive(Drop)]
+#[derive(Clone, Copy)]
 pub struct Times {
     pub tsm: BitTime,
     pub tid1: BitTime,
@@ -64,7 +66,7 @@ pub struct Times {
 }
 
 // What reckoning the times gives: refusal 20, or the times.
-#[derive(Drop)]
+#[derive(Clone, Copy)]
 pub enum Reckoned {
     Refused(u8),
     Reckon(Times),

@@ -7,14 +7,14 @@ ghost use Rattle.typed.specs.Digits.{nibble as digits_nibble, all_hex, octets, d
 ghost use Rattle.typed.specs.Digits.{hex as digits_hex, hex_left, glyph as digits_glyph, hex_of, shown};
 
 // What a word is as a number; the value is 0 if it is none.
-#[derive(Drop)]
+#[derive(Clone, Copy)]
 pub struct Number {
     pub good: bool,
     pub value: u32,
 }
 
 // What a word is as octets: whether it is any, and their count.
-#[derive(Drop)]
+#[derive(Clone, Copy)]
 pub struct Octets {
     pub good: bool,
     pub count: usize,

@@ -17,7 +17,7 @@ const LASTPOINT: u32 = 62;
 const NONEPLACE: u32 = 63;
 
 // Where an entry begins, and whether all entries before it are good.
-#[derive(Drop)]
+#[derive(Clone, Copy)]
 struct Step {
     good: bool,
     from: usize,

@@ -23,7 +23,7 @@ const DASHED: u32 = 256;
 pub const LONGEST: usize = 4096;
 
 // What a name and its value give behind a line's words: the number, and which word stands behind the two.
-#[derive(Drop)]
+#[derive(Clone, Copy)]
 pub struct Pair {
     pub number: Number,
     pub behind: usize,

@@ -9,7 +9,7 @@ use typed::places;
 use typed::places::{LONG, SHORT};
 
 // The calls of the table, and what is none.
-#[derive(Drop)]
+#[derive(Clone, Copy)]
 pub enum Call {
     Unknown,
     Start,

@@ -9,7 +9,7 @@ const ROOM: usize = 4097;
 
 // What was gathered: the place in the block where the next line begins, how many octets of the line are kept, and
 // whether its end was met.
-#[derive(Drop)]
+#[derive(Clone, Copy)]
 pub struct Gathered {
     pub next: usize,
     pub count: usize,

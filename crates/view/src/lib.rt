@@ -7,7 +7,7 @@ ghost use Rattle.view.specs.View.{part_of};
 use frame::Part;
 
 // The frame's octets, and where its data lie in them: the part that reading gave.
-#[derive(Drop)]
+#[derive(Clone, Copy)]
 pub struct Reader<'a> {
     pub octets: &'a [u8],
     pub start: usize,

@@ -1,6 +1,8 @@
 // The frame writer: a frame's fields and data as octets at the start of a lent output, or the first refusal of
 // 8..13 and the output as it was. The octets are added up as they are laid: the output is never read. The definitions
 // are the frame crate's. Assumes nothing.
+#![tactic(auto)]
+
 ghost use Rattle.std.specs.Prelude.{◌≡◌, ◌+◌, ◌<◌, ◌≤◌, true, false, [], ◌∷◌, length};
 ghost use Rattle.choice.specs.Choice.{pick, less, same};
 ghost use Rattle.control.specs.Control.{fc};
@@ -107,7 +109,7 @@ fn addressed(n: u8, a: Access) -> u8
 }
 
 // How far a body is laid: the place behind its last octet, and the sum of its octets modulo 256.
-#[derive(Drop)]
+#[derive(Clone, Copy)]
 struct Tally {
     at: usize,
     sum: u8,
