@@ -1,5 +1,4 @@
 -- `read::part` meets its contract: past the end there is nothing to take; else the end is count past the start.
-use borrow.Author.Rules.{rules}
 use mathlib.Core.Path.{sym, ap, ◌∙◌}
 use native.Mathlib.Nat.{add-sub_cancel_left}
 use native.Mathlib.Omega.{arith}

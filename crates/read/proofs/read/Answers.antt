@@ -1,39 +1,40 @@
 -- `read::read` meets its contract: each return is one case of the chain, and where the forms with a body meet, so is
 -- each form.
 use Prim.Native.Nat.{◌≤◌}
-use mathlib.Core.Logic.{⊎_elim}
 use native.Mathlib.Omega.{arith}
 use Rattle.choice.proofs.Rules.{if-same, unless-same, unless-less, asked-false, picks, asked}
 use Rattle.read.proofs.Measured.{mismeasured-within}
 use Rattle.frame.specs.Reading.{octet, read, read_sd2}
-use borrow.Author.Rules.{rules}
 use Rattle.read.proofs.read.Goals as goal
+use Rattle.read.proofs.read.Goals.{then-first-eq-SD1, else-first-eq-SD1+then-first-eq-SD2+else-s-lt4+else-mismeasured, else-first-eq-SD1+else-first-eq-SD2+then-first}
 
 pub read_body-requires : goal.read_body-requires
 read_body-requires c =
     let s = c.args.s.now in
-    ⊎_elim (λ sd1. omega arith)
-    (⊎_elim
-    (λ sd2.
-    let m : (4 ≤ octet s 1) × (octet s 1 ≤ 249) = mismeasured-within _ (octet s 2) (octet s 3) (cc) in
-    omega arith)
-    (λ sd3. omega arith))
-    c.if-first-eq-SD1.branch
+    elim c.if-first-eq-SD1.branch [
+      | then-first-eq-SD1 w ↦ omega arith
+      | else-first-eq-SD1+then-first-eq-SD2+else-s-lt4+else-mismeasured w ↦
+          let m : (4 ≤ octet s 1) × (octet s 1 ≤ 249) = mismeasured-within _ (octet s 2) (octet s 3) (cc) in
+          omega arith
+      | else-first-eq-SD1+else-first-eq-SD2+then-first w ↦ omega arith
+    ]
 
 pub returns : goal.returns
 unfolding read read_sd2
 returns c =
     let some = c.if-s-eq0.false in
-    ⊎_elim (λ sd1. unless-same _ some (if-same _ sd1.0.true (cc)))
-    (⊎_elim
-    (λ sd2.
-    unless-same _ some
-    (unless-same _ sd2.0.false
-    (if-same _ sd2.1.true (unless-less _ sd2.2.false (asked-false _ sd2.6.ensures sd2.7.false (cc))))))
-    (λ sd3.
-    unless-same _ some
-    (unless-same _ sd3.0.false (unless-same _ sd3.1.false (if-same _ sd3.2.true (cc))))))
-    c.if-first-eq-SD1.came
+    elim c.if-first-eq-SD1.branch [
+      | then-first-eq-SD1 w ↦ unless-same _ some (if-same _ w.if-first-eq-SD1.true (cc))
+      | else-first-eq-SD1+then-first-eq-SD2+else-s-lt4+else-mismeasured w ↦
+          unless-same _ some
+          (unless-same _ w.if-first-eq-SD1.false
+          (if-same _ w.if-first-eq-SD2.true
+          (unless-less _ w.if-s-lt4.false (asked-false _ w.mismeasured.ensures w.if-mismeasured.false (cc)))))
+      | else-first-eq-SD1+else-first-eq-SD2+then-first w ↦
+          unless-same _ some
+          (unless-same _ w.if-first-eq-SD1.false
+          (unless-same _ w.if-first-eq-SD2.false (if-same _ w.if-first.true (cc))))
+    ]
 
 pub returns-then-s-eq0 : goal.returns-then-s-eq0
 unfolding read read_sd2

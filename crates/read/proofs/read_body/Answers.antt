@@ -4,7 +4,6 @@ use native.Mathlib.Omega.{arith}
 use lib.ListN.{length-take, length-drop}
 use Rattle.choice.proofs.Rules.{if-same, unless-same, picks}
 use Rattle.frame.specs.Reading.{read_body}
-use borrow.Author.Rules.{rules}
 use Rattle.read.proofs.read_body.Goals as goal
 
 pub returns-then-s-end : goal.returns-then-s-end

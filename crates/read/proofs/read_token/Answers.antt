@@ -1,7 +1,6 @@
 -- `read::read_token` meets its contract: each return is one case of the chain.
 use Rattle.choice.proofs.Rules.{picks}
 use Rattle.frame.specs.Reading.{read_token, plain}
-use borrow.Author.Rules.{rules}
 use Rattle.read.proofs.read_token.Goals as goal
 
 pub returns-then-s-ne3 : goal.returns-then-s-ne3

@@ -4,7 +4,6 @@ use native.Mathlib.Omega.{arith}
 use Rattle.choice.proofs.Rules.{if-same, unless-same}
 use Rattle.read.proofs.body.Within.{data-within}
 use Rattle.frame.specs.Reading.{body_answer, answer}
-use borrow.Author.Rules.{rules}
 use Rattle.read.proofs.body.body_answer.Goals as goal
 
 pub returns-then-refused-ne0 : goal.returns-then-refused-ne0
@@ -18,7 +17,7 @@ head_of-requires c =
 
 pub overflow_sub-result : goal.overflow_sub-result
 overflow_sub-result c =
-    omega (arith, (head-of-requires after-data-at c.lifetimes).0)
+    omega (arith, data-within c.args.b.now (omega arith) (cc))
 
 pub returns : goal.returns
 unfolding body_answer answer

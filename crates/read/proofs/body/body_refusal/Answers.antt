@@ -1,7 +1,6 @@
 -- `read::body::body_refusal` meets its contract: each return is one case of the chain.
 use Rattle.choice.proofs.Rules.{picks, asked}
 use Rattle.frame.specs.Reading.{body_refusal}
-use borrow.Author.Rules.{rules}
 use Rattle.read.proofs.body.body_refusal.Goals as goal
 
 pub returns-then-s-eq127 : goal.returns-then-s-eq127

@@ -1,7 +1,6 @@
 -- `read::body::extended` meets its contract: each return is one case of the chain.
 use Rattle.choice.proofs.Rules.{picks}
 use Rattle.frame.specs.Reading.{extended}
-use borrow.Author.Rules.{rules}
 use Rattle.read.proofs.body.extended.Goals as goal
 
 pub returns-then-b-gt127 : goal.returns-then-b-gt127

@@ -1,7 +1,6 @@
 -- `read::body::misnamed` meets its contract: each return is one case of the chain.
 use Rattle.choice.proofs.Rules.{picks}
 use Rattle.frame.specs.Reading.{misnamed}
-use borrow.Author.Rules.{rules}
 use Rattle.read.proofs.body.misnamed.Goals as goal
 
 pub returns-then-most-b : goal.returns-then-most-b
