@@ -1,6 +1,5 @@
 -- `ring::enter` meets its contract: one place changed.
 use Rattle.ring.specs.Ring.{enter}
-use borrow.Author.Rules.{rules}
 use Rattle.ring.proofs.enter.Goals as goal
 
 pub returns : goal.returns

@@ -2,7 +2,6 @@
 use mathlib.Core.Path.{sym}
 use Rattle.choice.proofs.Rules.{same_true, same_false}
 use Rattle.ring.specs.Ring.{member}
-use borrow.Author.Rules.{rules}
 use Rattle.ring.proofs.member.Goals as goal
 
 pub returns-then-masters-wide-eq1 : goal.returns-then-masters-wide-eq1

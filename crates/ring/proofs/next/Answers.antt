@@ -1,6 +1,5 @@
 -- `ring::next` meets its contract: the search upward from the station.
 use Rattle.ring.specs.Ring.{next_of}
-use borrow.Author.Rules.{rules}
 use Rattle.ring.proofs.next.Goals as goal
 
 pub returns : goal.returns

@@ -2,7 +2,6 @@
 use Rattle.choice.proofs.Rules.{picks}
 use Rattle.ring.specs.Ring.{on}
 use native.Mathlib.Omega.{arith}
-use borrow.Author.Rules.{rules}
 use Rattle.ring.proofs.on.Goals as goal
 
 pub returns-then-b-lt127 : goal.returns-then-b-lt127

@@ -1,6 +1,5 @@
 -- `ring::previous` meets its contract: the search downward from the station.
 use Rattle.ring.specs.Ring.{previous_of}
-use borrow.Author.Rules.{rules}
 use Rattle.ring.proofs.previous.Goals as goal
 
 pub returns : goal.returns

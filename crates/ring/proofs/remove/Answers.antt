@@ -1,6 +1,5 @@
 -- `ring::remove` meets its contract: one place changed.
 use Rattle.ring.specs.Ring.{remove}
-use borrow.Author.Rules.{rules}
 use Rattle.ring.proofs.remove.Goals as goal
 
 pub returns : goal.returns
