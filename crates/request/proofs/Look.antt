@@ -1,10 +1,10 @@
 -- A record that is fit at the first look. Assumes nothing.
-use Prim.Native.Nat.{ℕ, ◌+◌, ◌<◌, ◌≤◌}
+use Prim.Native.Nat.{ℕ, ◌<◌, ◌≤◌}
 use mathlib.Core.Bool.{Bool, true, false, true≢false}
 use mathlib.Core.Logic.{◌⊎◌, inl, inr, ⊎_elim}
 use mathlib.Core.Path.{◌≡◌, refl, sym, ◌∙◌}
 use native.Mathlib.Omega.{arith}
-use Rattle.choice.specs.Choice.{pick, less, same, said, either}
+use Rattle.choice.specs.Choice.{pick, less, same, either}
 use Rattle.choice.proofs.Rules.{less-false, same_true, same_false, true-less, true_same, pick_true, pick-false}
 use Rattle.choice.proofs.Rules.{said-false}
 use Rattle.request.specs.declared.Record.{Record}

@@ -3,7 +3,6 @@
 use Rattle.std.specs.Prelude.{ℕ, ◌+◌, ◌*◌, ◌/◌, ◌%◌, Bool, true, false, List, [], ◌∷◌}
 use Rattle.choice.specs.Choice.{pick, less, same, said}
 use Rattle.frame.specs.Access.{NONE}
-use Rattle.frame.specs.declared.Address.{Address}
 use Rattle.frame.specs.Reading.{octet}
 use Rattle.request.specs.declared.Record.{Record}
 

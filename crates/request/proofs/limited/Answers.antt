@@ -1,5 +1,4 @@
 -- `request::limited` meets its contract: field by field.
-use borrow.Author.Rules.{rules}
 use Rattle.request.specs.Record.{limited}
 use Rattle.request.proofs.limited.Goals as goal
 

@@ -1,7 +1,6 @@
 -- `request::mispointed` meets its contract.
 use Rattle.request.specs.Record.{mispointed}
 use Rattle.choice.proofs.Rules.{picks, asked}
-use borrow.Author.Rules.{rules}
 use Rattle.request.proofs.mispointed.Goals as goal
 
 pub returns-then-beyond : goal.returns-then-beyond

@@ -3,7 +3,6 @@ use mathlib.Core.Path.{refl}
 use native.Mathlib.Omega.{arith}
 use Rattle.request.specs.Record.{overlong}
 use Rattle.choice.proofs.Rules.{if-less, unless-less}
-use borrow.Author.Rules.{rules}
 use Rattle.request.proofs.overlong.Goals as goal
 
 pub returns-then-extensions-n : goal.returns-then-extensions-n

@@ -1,6 +1,5 @@
 -- `request::read` meets its contract.
 use Rattle.request.specs.Record.{record_at}
-use borrow.Author.Rules.{rules}
 use Rattle.request.proofs.read.Goals as goal
 
 pub returns : goal.returns

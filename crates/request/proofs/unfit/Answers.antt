@@ -1,10 +1,8 @@
 -- `request::unfit` meets its contract: fit at the first look, or each return is one case of the chain.
 use mathlib.Core.Path.{sym, ◌∙◌}
-use borrow.Author.Tests.{not-true}
 use Rattle.request.specs.Record.{unfit}
 use Rattle.request.proofs.Look.{fit}
 use Rattle.choice.proofs.Rules.{picks, asked}
-use borrow.Author.Rules.{rules}
 use Rattle.request.proofs.unfit.Goals as goal
 
 pub returns-then-not-unserved : goal.returns-then-not-unserved
@@ -13,7 +11,7 @@ returns-then-not-unserved c =
     sym
     (fit a.ts.0 a.r a.n c.if-destination-lt-ALL.true c.if-destination-ts.true
     (sym c.usual.ensures ∙ c.if-usual.true) (sym c.usual-then-usual.ensures ∙ c.if-usual-2.true)
-    c.if-n-lt245.true c.if-limit-le-RETRIES.true (sym c.unserved.ensures ∙ not-true _ c.if-not-unserved.true))
+    c.if-n-lt245.true c.if-limit-le-RETRIES.true (sym c.unserved.ensures ∙ c.if-not-unserved.true))
 
 pub returns-then-misaddressed : goal.returns-then-misaddressed
 unfolding unfit
