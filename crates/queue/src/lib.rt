@@ -1,5 +1,7 @@
 // A queue's places in turn, and the decisions of submit, confirmation and collect as functions of values. Nothing here
 // touches a row. Assumes nothing.
+#![tactic(auto)]
+
 ghost use Rattle.std.specs.Prelude.{◌≡◌, ◌+◌, ◌<◌, ◌≤◌};
 ghost use Rattle.queue.specs.Queue.{Ruled, place as queue_place, current as queue_current};
 ghost use Rattle.queue.specs.Queue.{unlike as queue_unlike, misfit as queue_misfit, above as queue_above};
