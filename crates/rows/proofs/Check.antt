@@ -1,6 +1,6 @@
 -- The check of the unconfirmed records, one by one, and what it says of them all. Assumes nothing.
 use Prim.Native.Nat.{ℕ, zero, suc, ◌+◌, ◌-◌, ◌<◌}
-use mathlib.Core.Bool.{Bool, true, false}
+use mathlib.Core.Bool.{true, false}
 use mathlib.Core.Path.{◌≡◌, refl, ◌∙◌}
 use mathlib.Core.List.{List}
 use native.Mathlib.Omega.{arith}
@@ -25,6 +25,7 @@ faulted ts q row k e f g h = rw (h, g, f, e)
 pub sound-one : (ts : ℕ) (q : Queue) (row : List ℕ) (n : ℕ) → 0 < n → fault ts q row (n - 1) ≡ 0
     → sound ts q row n ≡ sound ts q row (n - 1)
 unfolding sound
+sound-one ts q row zero h e = elim h [ ]
 sound-one ts q row (suc n) h e =
     let m : suc n - 1 ≡ n = omega arith in
     rw m (pick_true _ _ (same_true (rw m at e)))
@@ -32,6 +33,7 @@ sound-one ts q row (suc n) h e =
 pub sound-stops : (ts : ℕ) (q : Queue) (row : List ℕ) (n : ℕ) → 0 < n → (fault ts q row (n - 1) ≡ 0 → ⊥)
     → sound ts q row n ≡ false
 unfolding sound
+sound-stops ts q row zero h e = elim h [ ]
 sound-stops ts q row (suc n) h e =
     let m : suc n - 1 ≡ n = omega arith in
     pick-false _ _ (same_false (rw m at e))

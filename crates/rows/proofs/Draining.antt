@@ -35,6 +35,7 @@ lent-confirmed q status count x row area r l n =
 drain-one : (n count : ℕ) (w : Left Queue) → 0 < n
     → drain n count w ≡ drain (n - 1) 0 (confirm w.answer DS count [] w.row w.area)
 unfolding drain
+drain-one zero count w h = elim h [ ]
 drain-one (suc n) count w h =
     let e : suc n - 1 ≡ n = omega arith in
     rw e

@@ -1,6 +1,6 @@
 -- Document 01, "Station": a row of request records as octets at fixed places, with its data area of 246 octets a place,
 -- and what each call on one leaves in both, all of it. Assumes nothing.
-use Rattle.std.specs.Prelude.{ℕ, zero, suc, ◌+◌, ◌*◌, ◌≤◌, Bool, true, false, ◌≡◌, List, [], length}
+use Rattle.std.specs.Prelude.{ℕ, zero, suc, ◌+◌, ◌*◌, Bool, true, false, ◌≡◌, List, [], length}
 use Rattle.choice.specs.Choice.{pick, same}
 use Rattle.frame.specs.Reading.{part}
 use Rattle.laid.specs.Laid.{laid}

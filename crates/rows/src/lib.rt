@@ -1,5 +1,7 @@
 // A row of request records as octets at fixed places, with its data area: submit, confirm, collect, and the check of
 // the unconfirmed records, thin over the queue's decisions. Assumes nothing.
+#![tactic(auto)]
+
 ghost use Rattle.std.specs.Prelude.{◌≡◌, ◌+◌, ◌*◌, ◌<◌, ◌≤◌, length};
 ghost use Rattle.request.specs.Record.{SIZE};
 ghost use Rattle.queue.specs.Queue.{AREA, Ruled};
