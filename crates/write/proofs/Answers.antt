@@ -18,12 +18,16 @@ use Rattle.write.proofs.Frame.{start, length-framed}
 
 -- ---- the answer r and the output left behind for a frame f with the data x and an output o
 abbrev pub Answered : Fields → List ℕ → List ℕ → Written → List ℕ → Type 0
-Answered f x o r now = (r ≡ written f x o) × (now ≡ left f x o)
+Answered f x o r now = record { value : r ≡ written f x o; out_after : now ≡ left f x o }
 
 -- refused with n, and the output as it was
 stopped : (f : Fields) (x o : List ℕ) (n : ℕ) → n ≡ refused f x o → (n ≡ 0 → ⊥) → Answered f x o (Refused n) o
 unfolding written left
-stopped f x o n e z = (unless-same _ (λ q. z (e ∙ q)) (ap Refused e), unless-same _ (λ q. z (e ∙ q)) refl)
+stopped f x o n e z =
+    record {
+      value = unless-same _ (λ q. z (e ∙ q)) (ap Refused e);
+      out_after = unless-same _ (λ q. z (e ∙ q)) refl;
+    }
 
 pub unwritten : (f : Fields) (x : List ℕ) {o : List ℕ} {n : ℕ}
     → n ≡ unwritable f x → (n ≡ 0 → ⊥) → Answered f x o (Refused n) o
@@ -47,7 +51,10 @@ module _ {f : Fields} {x u : List ℕ} {n : ℕ} (w : Writes f x u n) (o : List 
   unfolding refused written left
   wrote h e =
       let z : 0 ≡ refused f x o = if-same _ w.writable (unless-less _ (rw (w.octets, w.count) h) refl) in
-      (if-same _ (sym z) (rw (w.octets, w.count)), if-same _ (sym z) (rw w.octets (e ∙ laid-start o u)))
+      record {
+        value = if-same _ (sym z) (rw (w.octets, w.count));
+        out_after = if-same _ (sym z) (rw w.octets (e ∙ laid-start o u));
+      }
 
 -- ---- a frame with a control octet, n the count of its unit's octets and r its refusal
 pub record Writable (h : Head) (n : ℕ) : Type 0 where

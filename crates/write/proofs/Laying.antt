@@ -27,7 +27,7 @@ pub laying : (f : Fields) (x o : List ℕ) → unwritable f x ≡ 0 → length (
 laying f x o z n h =
     let w : Writes f x (octets f x) (length (octets f x)) = record { writable = z; octets = refl; count = refl } in
     let a : Answered f x o (Count (length (octets f x))) (laid o 0 (octets f x)) = wrote w o (omega arith) refl in
-    record { counts = a.0; leaves = a.1; near = n }
+    record { counts = a.value; leaves = a.out_after; near = n }
 
 pub laying-short : (o : List ℕ) → 255 ≤ length o → Laying Short [] o
 unfolding unwritable octets

@@ -1,5 +1,5 @@
 -- `write::addressed` meets its contract: 0x80 is added where there is an access point.
-use Rattle.std.proofs.Common.{arith, rules}
+use Rattle.std.proofs.Common.{arith}
 use Rattle.frame.specs.Format.{addressed, announce}
 use Rattle.write.proofs.addressed.Goals as goal
 

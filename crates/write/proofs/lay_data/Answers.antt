@@ -1,6 +1,5 @@
 -- `write::lay_data` meets its contract. The loop's invariant: the octets passed are laid and added up.
-use Rattle.std.proofs.Common.{◌≡◌, ◌+◌, ◌-◌, ◌≤◌, length, take, refl, ◌∙◌, arith, length-set, take_all}
-use Rattle.write.specs.Adding.{Adds}
+use Rattle.std.proofs.Common.{refl, ◌∙◌, arith, length-set, take_all}
 use Rattle.write.proofs.Adding.{adds-nil, adds-more}
 use Rattle.write.proofs.lay_data.Goals as goal
 
@@ -13,7 +12,7 @@ loop-i-preserved c =
       omega arith,
       length-set l.out _ _ ∙ l.invariant.1,
       adds-more c.args.«data».now l.i l.sum _ (omega arith) (omega arith) l.invariant.2
-          c.wrapping_add_u8-sum.ensures,
+          c.wrapping_add_u8-sum.ensures.value,
     )
 
 pub returns : goal.returns

@@ -1,5 +1,5 @@
 -- `write::lay_extension` meets its contract: nothing is laid, or the point.
-use Rattle.std.proofs.Common.{refl, arith, rules}
+use Rattle.std.proofs.Common.{refl, arith}
 use Rattle.frame.specs.Format.{extension}
 use Rattle.write.proofs.Adding.{adds-nil}
 use Rattle.write.proofs.lay_extension.Goals as goal

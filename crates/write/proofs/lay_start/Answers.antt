@@ -1,5 +1,5 @@
 -- `write::lay_start` meets its contract: one store for a body of three octets, else four.
-use Rattle.std.proofs.Common.{[], ◌∷◌, refl, arith, length-set, rules}
+use Rattle.std.proofs.Common.{[], ◌∷◌, refl, arith}
 use Rattle.choice.proofs.Rules.{pick_true, pick-false, same_true, same_false}
 use Rattle.frame.specs.Format.{SD1, SD2}
 use Rattle.laid.proofs.Laws.{lays-sets}
@@ -18,12 +18,3 @@ returns c =
     let u = SD2 ∷ (n ∷ (n ∷ (SD2 ∷ []))) in
     rw (pick-false _ u (same_false c.if-n-eq3.false))
     (lays-sets l 0 u 4 _ _ (omega arith) (omega arith) refl refl)
-
-pub bounds-out-0-2 : goal.bounds-out-0-2
-bounds-out-0-2 c = simp length-set (omega arith)
-
-pub bounds-out-1 : goal.bounds-out-1
-bounds-out-1 c = simp length-set (omega arith)
-
-pub bounds-out-2 : goal.bounds-out-2
-bounds-out-2 c = simp length-set (omega arith)

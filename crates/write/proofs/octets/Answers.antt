@@ -1,6 +1,5 @@
 -- `write::octets` meets its contract: each return is one case.
 use Rattle.choice.proofs.Rules.{picks}
-use Rattle.std.proofs.Common.{rules}
 use Rattle.write.proofs.octets.Goals as goal
 
 pub returns-then-n-eq0 : goal.returns-then-n-eq0

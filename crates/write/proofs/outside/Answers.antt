@@ -1,6 +1,5 @@
 -- `write::outside` meets its contract: none is never outside, and a point by its number.
 use Rattle.frame.specs.Format.{outside}
-use Rattle.std.proofs.Common.{rules}
 use Rattle.write.proofs.outside.Goals as goal
 
 pub returns-in-None : goal.returns-in-None

@@ -1,5 +1,5 @@
 -- `write::refusal` meets its contract: each return is one case of the chain.
-use Rattle.std.proofs.Common.{◌≡◌, ℕ, Bool, rules}
+use Rattle.std.proofs.Common.{◌≡◌, ℕ, Bool}
 use Rattle.choice.proofs.Rules.{picks, asked}
 use Rattle.control.specs.declared.Control.{Control}
 use Rattle.control.specs.Control.{fc, lawful, listed}

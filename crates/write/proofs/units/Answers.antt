@@ -1,5 +1,5 @@
 -- `write::units` meets its contract: the lengths of the unit's three pieces add up.
-use Rattle.std.proofs.Common.{arith, rules}
+use Rattle.std.proofs.Common.{arith}
 use Rattle.frame.proofs.Lengths.{length-unit}
 use Rattle.write.proofs.units.Goals as goal
 

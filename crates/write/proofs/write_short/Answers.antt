@@ -1,5 +1,5 @@
 -- `write::write_short` meets its contract: nothing refuses it but an empty output.
-use Rattle.std.proofs.Common.{[], ◌∷◌, refl, arith, rules}
+use Rattle.std.proofs.Common.{[], ◌∷◌, refl, arith}
 use Rattle.frame.specs.declared.Fields.TheVariants.{Short}
 use Rattle.frame.specs.Format.{SC, octets, unwritable}
 use Rattle.laid.proofs.Laws.{laid-sets}

@@ -1,5 +1,5 @@
 -- `write::write_token` meets its contract: each refusal stands in its place, and the three octets are stored in a row.
-use Rattle.std.proofs.Common.{◌≤◌, [], ◌∷◌, sym, refl, arith, length-set, rules}
+use Rattle.std.proofs.Common.{◌≤◌, [], ◌∷◌, sym, refl, arith}
 use Rattle.choice.proofs.Rules.{picks, unless-less}
 use Rattle.frame.specs.declared.Address.{Address}
 use Rattle.frame.specs.declared.Fields.TheVariants.{Token}
@@ -34,6 +34,3 @@ returns c =
     let a = c.args in
     let laid = laid-sets a.out.now 0 (SD4 ∷ (a.destination.0 ∷ (a.source.0 ∷ []))) (omega arith) in
     wrote (writes a.destination a.source (omega arith) (omega arith)) _ (omega arith) laid
-
-pub bounds-out-0 : goal.bounds-out-0
-bounds-out-0 c = simp length-set (omega arith)
