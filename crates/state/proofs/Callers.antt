@@ -20,7 +20,6 @@ use Rattle.state.specs.declared.Answer.{Answer}
 use Rattle.state.specs.declared.Renewed.{Renewed}
 use Rattle.state.specs.declared.HandedBack.{HandedBack}
 use Rattle.state.specs.World.{Rows, World, Called, rows, world_of, state_of, rows_of, done, accepted}
-use Rattle.state.specs.World.{refused}
 use Rattle.state.specs.Told.{Leaves, leaves, told, reset_of, started_of, lent, accepted_of, answer_of, handed_back_of}
 use Rattle.state.specs.Told.{submitted_of, adds, telling}
 use Rattle.state.specs.Calls.{Started, Unstarted, Station, refuse, called}

@@ -1,13 +1,13 @@
 -- A confirmed record and its data stay as the confirmation left them until the record is collected, and that record
 -- is what collect hands back. Assumes nothing.
 use Prim.Native.Nat.{ℕ}
-use mathlib.Core.Bool.{Bool, true, false, true≢false}
+use mathlib.Core.Bool.{true, false, true≢false}
 use mathlib.Core.Path.{◌≡◌, refl, sym, ap, ◌∙◌}
 use mathlib.Core.List.{List, [], ◌∷◌, ◌++◌, cons-ne-nil, head-eq_of_cons-eq, tail-eq_of_cons-eq}
 use Rattle.frame.specs.declared.Address.{Address}
 use Rattle.request.specs.declared.Record.{Record}
 use Rattle.queue.specs.declared.Queue.{Queue}
-use Rattle.queue.specs.Queue.{AREA, closed}
+use Rattle.queue.specs.Queue.{AREA, current, closed}
 use Rattle.rows.specs.Rows.{at, content}
 use Rattle.state.specs.declared.Priority.{Priority}
 use Rattle.state.specs.World.{Rows, Site, World, Event, Called, aRequest, accepted, begins, ends, sends}
@@ -24,7 +24,7 @@ use Rattle.state.proofs.Poise.{Poised, poised-acted, poise}
 use Rattle.state.proofs.Order.{Orderly}
 use Rattle.state.proofs.Ordered.{poised, call-orderly, run-orderly}
 use Rattle.state.proofs.Start.{begun-orderly}
-use Rattle.state.proofs.Effects.{about, Effect, spared, shut, queue_at, rows_at, rows-by, effect-acted}
+use Rattle.state.proofs.Effects.{about, Effect, spared, sent, taken, shut, handed, queue_at, rows_at, rows-by, effect-acted}
 use Rattle.state.proofs.Entries.{Fixed, fixed-now}
 use Rattle.state.proofs.Staying.{alike-itself, Asks, itself, asked-sent, asked-collected, stays}
 use Rattle.state.proofs.Spans.{never_first, never-one, never-behind, never-within}
@@ -102,11 +102,18 @@ now s c z =
       count = ap (λ (r : Record). r.count) z.lies.entry ∙ c;
     }
 
-now-shut : {own : ℕ} {y : Priority} {a : Address} {n status k : ℕ} {q q' : Queue} {u u' : Rows} → Filed own q u
-    → Effect y a q u (confirmed y n status k) q' u' → Now n status k q' u'
+now-shut : {own : ℕ} {y : Priority} {a : Address} {q : Queue} {u : Rows} {e : Event} {q' : Queue} {u' : Rows}
+    {n status k : ℕ} → Filed own q u → Effect y a q u e q' u' → e ≡ confirmed y n status k → Now n status k q' u'
 unfolding about closed
-now-shut {y = y} f (spared e h) = absurd (true≢false (sym (alike-itself y) ∙ h))
-now-shut f (shut status k x h l) = now refl refl (fixed-now _ _ f _ status k x h refl)
+now-shut {y = y} f (spared e h) i = absurd (true≢false (sym (alike-itself y) ∙ (rw i at h)))
+now-shut f (sent marks t h) i = absurd (cc)
+now-shut f (taken r x h l) i = absurd (cc)
+now-shut {q = q} {n = n} {status = status} {k = k} f (shut status' k' x h l) i =
+    let place : n ≡ current q = cc in
+    let told : status ≡ status' = cc in
+    let count : k ≡ k' = cc in
+    rw (place, told, count) (now refl refl (fixed-now _ _ f _ status' k' x h refl))
+now-shut f (handed h) i = absurd (cc)
 
 unfiled-uncollected : (p : Priority) (n : ℕ) (e : Event) → files e ≡ false → collects p n e ≡ false
 unfolding files collects
@@ -143,7 +150,7 @@ module _ (w : World) (b : Begun w) (before : List Call) (c : Call) (p : Priority
   now-parted g z =
       let a = given-trail ground z.first g in
       let f = effect-acted b.settings b.ts p z.deed a in
-      let m = now-shut (filed-at b.settings b.ts p z.found a.firm) f in
+      let m = now-shut (filed-at b.settings b.ts p z.found a.firm) f refl in
       now m.status m.count
       (lasts-trail b.settings b.ts orderly.small p (stays p n b.ts _ _) z.rest
       (poised-acted b.settings b.ts orderly.small z.deed a) m.fixed

@@ -107,7 +107,7 @@ pub record Left (y : Priority) (s s' : Site) : Type 0 where
   pub queue : queue_at y s' ≡ queue_at y s
   pub rows : rows_at y s' ≡ rows_at y s
 
-pub left-moved : (y : Priority) {p q : Point} {s s' : Site} → Move Any p s q s' → Left y s s'
+pub left-moved : (y : Priority) {p : Point} {s : Site} {q : Point} {s' : Site} → Move Any p s q s' → Left y s s'
 unfolding rest admit without with_core with_masters with_doing with_stranger with_ps fresh_core
 left-moved y (lets_go s h) = record { queue = refl; rows = refl }
 left-moved y (rests s) = record { queue = refl; rows = refl }
@@ -176,7 +176,7 @@ saw starts clock Low s e = (saw-low starts _ clock e).0
 
 -- ---- every act
 module _ (t : Settings) (ts : ℕ) (y : Priority) where
-  pub effect-acted : {p q : Point} {s s' : Site} {e : Event} → Act Any p s e q s' → Poised t ts p s
+  pub effect-acted : {p : Point} {s : Site} {q : Point} {s' : Site} {e : Event} → Act Any p s e q s' → Poised t ts p s
       → EffectAt y s e s'
   unfolding about about_what pass_core send_core beginning once with_core with_doing with_hold with_stranger flight A.replies
   effect-acted (opens clock s) g = spared _ refl

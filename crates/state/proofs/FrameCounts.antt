@@ -1,6 +1,6 @@
 -- Frame counts over a run: every sending of a request has the FCB and FCV that the history's mark of its destination
 -- gives, and one that is sent again goes with the same octets. Assumes nothing.
-use Prim.Native.Nat.{ℕ, ◌+◌, ◌≤◌, ◌<◌}
+use Prim.Native.Nat.{ℕ, ◌≤◌, ◌<◌}
 use mathlib.Core.Bool.{Bool, true, false, true≢false}
 use mathlib.Core.Path.{◌≡◌, refl, sym, ap, ◌∙◌}
 use mathlib.Core.List.{List, [], ◌∷◌, ◌++◌}
@@ -70,7 +70,7 @@ fits_fresh : {ts : Address} {g : Doing} {h l : Queue} {u v : Rows} → flight g.
 unfolding unheard
 fits_fresh e = rested e (record { agree = agree-unknown; nothing = refl })
 
-stands-moved : {p q : Point} {s s' : Site} → Move Any p s q s' → (z : History) → Stands p s z → Stands q s' z
+stands-moved : {p : Point} {s : Site} {q : Point} {s' : Site} → Move Any p s q s' → (z : History) → Stands p s z → Stands q s' z
 unfolding Stands rest admit without with_core with_masters with_doing with_stranger with_ps resting fresh_core flight
 stands-moved (lets_go s h) z i = at_rest (h any) i
 stands-moved (rests s) z i = rested refl i
@@ -215,7 +215,7 @@ closed-unheard : (y : Priority) (n status k : ℕ) (z : History) → z ≡ unhea
 unfolding heeds closes_in unheard
 closed-unheard y n status k z e = rw e
 
-stands-acted : (t : Settings) (ts : ℕ) {p q : Point} {s s' : Site} {e : Event} → Act Any p s e q s' → (z : History)
+stands-acted : (t : Settings) (ts : ℕ) {p : Point} {s : Site} {q : Point} {s' : Site} {e : Event} → Act Any p s e q s' → (z : History)
     → Poised t ts p s → Stands p s z → Meets e z × Stands q s' (heeds e z)
 unfolding Stands of_sendings Sent heeds goes pass_core with_core with_doing once flight A.replies
 stands-acted t ts (opens clock s) z g i = (any, i)

@@ -56,7 +56,7 @@ Stands passing g b = b ≡ false
 Stands halting g b = flight g.phase ≡ b
 Stands (clearing m n) g b = b ≡ false
 
-stands-moved : {p q : Point} {s s' : Site} → Move Any p s q s' → (b : Bool) → Stands p s.core.doing b
+stands-moved : {p : Point} {s : Site} {q : Point} {s' : Site} → Move Any p s q s' → (b : Bool) → Stands p s.core.doing b
     → Stands q s'.core.doing b
 unfolding Stands rest admit without with_core with_masters with_doing with_stranger with_ps resting fresh_core flight
 stands-moved (lets_go s e) b i = sym i ∙ e any
@@ -67,7 +67,7 @@ stands-moved (drops s e h) b i = sym i ∙ ap flight (e any)
 stands-moved (spares s e) b i = sym i ∙ e
 stands-moved (renews m n masters s e f g) b i = sym i
 
-stands-acted : {p q : Point} {s s' : Site} {e : Event} → Act Any p s e q s' → (b : Bool) → Stands p s.core.doing b
+stands-acted : {p : Point} {s : Site} {q : Point} {s' : Site} {e : Event} → Act Any p s e q s' → (b : Bool) → Stands p s.core.doing b
     → Meets e b × Stands q s'.core.doing (hold_after e b)
 unfolding Stands Meets Goes hold_after send_core pass_core beginning close_of done once with_rows with_marks with_core with_queue
     with_doing with_hold with_stranger queue_of rows_of confirm A.replies flight

@@ -13,8 +13,8 @@ use Rattle.state.proofs.Walk.{Course, declined, carried, course}
 -- what is known of the site at each point, whatever was told
 pub record Ground : Type 1 where
   pub Given : Point → Site → Type 0
-  pub moved : {p q : Point} {s t : Site} → Move Any p s q t → Given p s → Given q t
-  pub acted : {p q : Point} {s t : Site} {e : Event} → Act Any p s e q t → Given p s → Given q t
+  pub moved : {p : Point} {s : Site} {q : Point} {t : Site} → Move Any p s q t → Given p s → Given q t
+  pub acted : {p : Point} {s : Site} {q : Point} {t : Site} {e : Event} → Act Any p s e q t → Given p s → Given q t
 
 abbrev pub ungrounded : Ground
 ungrounded = record { Given = λ p s. Any; moved = λ m g. any; acted = λ a g. any }
@@ -29,8 +29,8 @@ pub record Account (g : Ground) : Type 1 where
   pub more : (e : Event) (l : List Event) (h : History) → after_all (e ∷ l) h ≡ after_all l (after e h)
   pub Meets : Event → History → Type 0
   pub At : Point → Site → History → Type 0
-  pub moves : {p q : Point} {s t : Site} → Move Any p s q t → (h : History) → g.Given p s → At p s h → At q t h
-  pub acts : {p q : Point} {s t : Site} {e : Event} → Act Any p s e q t → (h : History) → g.Given p s → At p s h
+  pub moves : {p : Point} {s : Site} {q : Point} {t : Site} → Move Any p s q t → (h : History) → g.Given p s → At p s h → At q t h
+  pub acts : {p : Point} {s : Site} {q : Point} {t : Site} {e : Event} → Act Any p s e q t → (h : History) → g.Given p s → At p s h
       → Meets e h × At q t (after e h)
   pub refuses : (n : ℕ) (s : Site) (h : History) → At calm s h → Meets (refused n) h × At calm s (after (refused n) h)
 

@@ -72,7 +72,7 @@ module _ (t : Settings) (ts : ℕ) (small : ts ≤ 126) (y : Priority) (f : Last
   record Stands (s : Site) (b : Bool) : Type 0 where
     fact : b ≡ true → f.Fact (queue_at y s) (rows_at y s)
 
-  stands-moved : {p q : Point} {s s' : Site} → Move Any p s q s' → (b : Bool) → Stands s b → Stands s' b
+  stands-moved : {p : Point} {s : Site} {q : Point} {s' : Site} → Move Any p s q s' → (b : Bool) → Stands s b → Stands s' b
   stands-moved m b i =
       let l = left-moved y m in
       record { fact = λ e. rw (l.queue, l.rows) (i.fact e) }
@@ -86,7 +86,7 @@ module _ (t : Settings) (ts : ℕ) (small : ts ≤ 126) (y : Priority) (f : Last
     record { fact = λ z. let j = neither _ b z in (h (i.fact j.1)).1 j.0 },
   )
 
-  stands-acted : {p q : Point} {s s' : Site} {e : Event} → Act Any p s e q s' → (b : Bool) → Poised t ts p s
+  stands-acted : {p : Point} {s : Site} {q : Point} {s' : Site} {e : Event} → Act Any p s e q s' → (b : Bool) → Poised t ts p s
       → Stands s b → (b ≡ true → f.Asks e) × Stands s' (still_by f.ends e b)
   stands-acted {s = s} m b g i =
       stands_by b (f.lasts g.firm.station (filed-at t ts y s g.firm) (effect-acted t ts y m g)) i
@@ -144,7 +144,7 @@ pub record Helped (t : Settings) (ts : ℕ) (small : ts ≤ 126) (y : Priority) 
     (a : Account (poise t ts small)) : Type 1 where
   pub Meets : Event → a.History → Type 0
   pub refusal : (n : ℕ) (h : a.History) → Meets (refused n) h
-  pub meets : {p q : Point} {s s' : Site} {e : Event} → Act Any p s e q s' → (h : a.History) → Poised t ts p s
+  pub meets : {p : Point} {s : Site} {q : Point} {s' : Site} {e : Event} → Act Any p s e q s' → (h : a.History) → Poised t ts p s
       → a.At p s h → FactAt t ts small y f s → Meets e h
 
 module _ (t : Settings) (ts : ℕ) (small : ts ≤ 126) (y : Priority) (f : Lasts y ts) (a : Account (poise t ts small))

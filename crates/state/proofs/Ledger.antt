@@ -215,7 +215,7 @@ module _ (ts limit : ℕ) (r : Record) (x : List ℕ) (w : World) (i : w.site.co
   booked-admitted Low High f g b = booked-like Low ts limit l _ (λ n. pick_true _ _ (foreign Low High n _ refl)) b
   booked-admitted Low Low f g b = booked-taken Low ts limit w.site.core.ts i _ _ f r x g l b
 
-  booked-submission : {d : Called} (y z : Priority)
+  booked-submission : (y z : Priority) {d : Called}
       → Filed w.site.core.ts.0 (queue_at y w.site) (rows_at y w.site) → Submission z (limited limit r) x w d
       → Booked y ts limit l (queue_at y w.site) (rows_at y w.site)
       → Booked y ts limit (entering y ts limit r x d.events l) (queue_at y d.world.site)

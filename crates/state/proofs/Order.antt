@@ -13,7 +13,6 @@ use Rattle.ring.specs.Ring.{member}
 use Rattle.queue.specs.declared.Queue.{Queue}
 use Rattle.queue.specs.Queue.{Ruled}
 use Rattle.queue.proofs.Laws.{not-overfull}
-use Rattle.rows.specs.Rows.{at}
 use Rattle.rows.proofs.Check.{sound-is}
 use Rattle.state.specs.declared.Phase.{Phase}
 use Rattle.state.specs.declared.Priority.{Priority}

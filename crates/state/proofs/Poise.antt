@@ -245,7 +245,7 @@ module _ (t : Settings) (ts : ℕ) (small : ts ≤ 126) where
   close-firm Low o x s h n l f = refirm f f.high (filed-confirmed _ _ s.low f.low _ _ x h n l)
 
   -- ---- moves
-  pub poised-moved : {p q : Point} {s s' : Site} → Move Any p s q s' → Poised t ts p s → Poised t ts q s'
+  pub poised-moved : {p : Point} {s : Site} {q : Point} {s' : Site} → Move Any p s q s' → Poised t ts p s → Poised t ts q s'
   unfolding AptIn rest admit without with_core with_masters with_doing with_stranger with_ps resting fresh_core
   poised-moved (lets_go s h) g = record { firm = g.firm; apt = any }
   poised-moved (rests s) g = record { firm = g.firm; apt = apt-idle _ _ _ _ _ _ _ }
@@ -321,7 +321,7 @@ module _ (t : Settings) (ts : ℕ) (small : ts ≤ 126) where
         apt = apt-low _ (loaded-freed _ s.core.low s.low.row f.low.ruled h) a;
       }
 
-  pub poised-acted : {p q : Point} {s s' : Site} {e : Event} → Act Any p s e q s' → Poised t ts p s → Poised t ts q s'
+  pub poised-acted : {p : Point} {s : Site} {q : Point} {s' : Site} {e : Event} → Act Any p s e q s' → Poised t ts p s → Poised t ts q s'
   unfolding AptIn pass_core ns beginning with_core with_rows with_queue queue_of rows_of confirm with_doing with_hold
       with_stranger once flight
   poised-acted (opens clock s) g =

@@ -10,8 +10,8 @@ use Rattle.rows.specs.Rows.{confirm}
 use Rattle.state.specs.declared.Priority.{Priority}
 use Rattle.state.specs.declared.Priority.TheVariants.{High, Low}
 use Rattle.state.specs.declared.Doing.{Doing}
-use Rattle.state.specs.World.{Site, World, What, aRequest, aToken, aReply, Event, accepted, begins, ends, sends}
-use Rattle.state.specs.World.{confirmed, collected, indicated, resets, refused, done, with_doing, with_hold}
+use Rattle.state.specs.World.{Site, World, What, aRequest, aToken, aReply, Event, sends}
+use Rattle.state.specs.World.{refused, done, with_doing, with_hold}
 use Rattle.state.specs.World.{with_stranger, with_ps, with_queue, queue_of, with_core, with_masters, with_marks}
 use Rattle.state.specs.World.{rows_of, with_rows}
 use Rattle.state.specs.Request.{send_core, once, close_of}
@@ -69,7 +69,7 @@ unlow : {g : Doing} {h : Line} → g.served ≡ High → Knows g h
 unfolding is_low
 unlow e = record { low = λ i j. absurd (true≢false (sym j ∙ ap is_low e)) }
 
-placed-moved : {p q : Point} {s s' : Site} → Move Any p s q s' → (h : Line) → Placed p s h → Placed q s' h
+placed-moved : {p : Point} {s : Site} {q : Point} {s' : Site} → Move Any p s q s' → (h : Line) → Placed p s h → Placed q s' h
 unfolding KnowsIn rest admit without with_core with_masters with_doing with_stranger with_ps resting fresh_core flight
 placed-moved (lets_go s e) h p = record { count = p.count; knows = any }
 placed-moved (rests s) h p = record { count = p.count; knows = unflown refl }
@@ -79,7 +79,7 @@ placed-moved (drops s e i) h p = record { count = p.count; knows = any }
 placed-moved (spares s e) h p = record { count = p.count; knows = any }
 placed-moved (renews a b masters s i j k) h p = record { count = p.count; knows = unflown refl }
 
-placed-acted : {p q : Point} {s s' : Site} {e : Event} → Act Any p s e q s' → (h : Line) → Placed p s h
+placed-acted : {p : Point} {s : Site} {q : Point} {s' : Site} {e : Event} → Act Any p s e q s' → (h : Line) → Placed p s h
     → Meets e h × Placed q s' (line_after e h)
 unfolding KnowsIn is_low of_sendings Goes line_after sent_by joined served send_core pass_core beginning close_of done once
     with_rows with_marks with_core with_queue with_doing with_hold with_stranger queue_of rows_of confirm Q.confirmed take grown

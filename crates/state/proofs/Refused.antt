@@ -16,7 +16,7 @@ use Rattle.state.specs.Told.{telling, untold, adds}
 use Rattle.state.specs.Calls.{refuse, awaited_read, sent_in, slot_in, resetting}
 use Rattle.state.specs.Runs.{Call, call}
 use Rattle.state.proofs.Cases.{Any, any}
-use Rattle.state.proofs.Acts.{Point, calm, Act, opens, serves, stops, quits, passes, repasses, repeats, closes}
+use Rattle.state.proofs.Acts.{Point, Act, opens, serves, stops, quits, passes, repasses, repeats, closes}
 use Rattle.state.proofs.Acts.{takes, hands, replies, shows, restarts, breaks, clears-high, clears-low, Trail}
 use Rattle.state.proofs.Acts.{stop, move, act}
 use Rattle.state.proofs.Walk.{Goes, goes-token, goes-awaited, goes-sent, goes-slot, trail-resetting, Carried}
@@ -50,7 +50,7 @@ unrefused (resets ∷ a) e = unrefused a e
 unrefused (refused n ∷ a) e = absurd (true≢false e)
 
 -- ---- no act refuses
-tame-act : {k : Type 0} {p q : Point} {s t : Site} {e : Event} → Act k p s e q t → (l : List Event)
+tame-act : {k : Type 0} {p : Point} {s : Site} {q : Point} {t : Site} {e : Event} → Act k p s e q t → (l : List Event)
     → refuses l ≡ false → refuses (e ∷ l) ≡ false
 unfolding refuses A.replies
 tame-act (opens clock s) l i = i
@@ -77,7 +77,7 @@ tame (move m r) = tame r
 tame (act {l = l} a r) = tame-act a l (tame r)
 
 -- ---- and no act on the site indicates
-silent-act : {p q : Point} {s t : Site} {e : Event} → Act ⊥ p s e q t → (l : List Event)
+silent-act : {p : Point} {s : Site} {q : Point} {t : Site} {e : Event} → Act ⊥ p s e q t → (l : List Event)
     → (telling l).indication ≡ None → (telling (e ∷ l)).indication ≡ None
 unfolding telling untold adds A.replies
 silent-act (opens clock s) l i = i

@@ -118,7 +118,7 @@ module _ (p : Priority) (n : ℕ) where
   Stands halting s k = k ≡ 0
   Stands (clearing a b) s k = k ≡ 0
 
-  stands-moved : {a b : Point} {s s' : Site} → Move Any a s b s' → (k : ℕ) → Stands a s k → Stands b s' k
+  stands-moved : {a : Point} {s : Site} {b : Point} {s' : Site} → Move Any a s b s' → (k : ℕ) → Stands a s k → Stands b s' k
   unfolding Stands rest admit without with_core with_masters with_doing with_stranger with_ps resting fresh_core flight
   stands-moved (lets_go s e) k i = counted_none (e any) i
   stands-moved (rests s) k i = uncounted refl i
@@ -154,7 +154,7 @@ module _ (p : Priority) (n : ℕ) where
     stands-repeats = rw ours-is (counted-again _ h going)
 
   module _ (t : Settings) (ts : ℕ) where
-    stands-acted : {a b : Point} {s s' : Site} {e : Event} → Act Any a s e b s' → (k : ℕ) → Poised t ts a s
+    stands-acted : {a : Point} {s : Site} {b : Point} {s' : Site} {e : Event} → Act Any a s e b s' → (k : ℕ) → Poised t ts a s
         → Stands a s k → Stands b s' (sendings_after p n e k)
     unfolding Stands sendings_after sendings_by send_core pass_core beginning close_of done once with_rows with_marks with_core
         with_queue with_doing with_hold with_stranger queue_of rows_of confirm A.replies flight queue_by
@@ -227,7 +227,7 @@ limit-at Low High n s e = absurd (true≢false (sym (both_true _ _ e).0))
 limit-at Low Low n s e = ap (λ (m : ℕ). (at s.low.row m).limit) (sym (true_same _ _ (both_true _ _ e).1))
 
 module _ (t : Settings) (ts : ℕ) (p : Priority) (n limit : ℕ) where
-  goes-acted : {a b : Point} {s s' : Site} {e : Event} → Act Any a s e b s' → (k : ℕ) → Poised t ts a s
+  goes-acted : {a : Point} {s : Site} {b : Point} {s' : Site} {e : Event} → Act Any a s e b s' → (k : ℕ) → Poised t ts a s
       → Stands p n a s k → (at (rows_at p s).row n).limit ≡ limit → of_sendings (Goes p n limit) e k
   unfolding Stands Goes of_sendings A.replies flight
   goes-acted (opens clock s) k g i z = any

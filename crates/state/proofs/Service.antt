@@ -75,7 +75,7 @@ module _ (y : Priority) (t : Settings) (ts : ℕ) (small : ts ≤ 126) where
   line_at s = line (queue_by y s.core.high s.core.low)
 
   -- ---- moves leave both queues
-  lined_moved : {p q : Point} {s s' : Site} → Move Any p s q s' → line_at s' ≡ line_at s
+  lined_moved : {p : Point} {s : Site} {q : Point} {s' : Site} → Move Any p s q s' → line_at s' ≡ line_at s
   unfolding rest admit without with_core with_masters with_doing with_stranger with_ps fresh_core
   lined_moved (lets_go s h) = refl
   lined_moved (rests s) = refl
@@ -86,7 +86,7 @@ module _ (y : Priority) (t : Settings) (ts : ℕ) (small : ts ≤ 126) where
   lined_moved (renews a b masters s h i j) = refl
 
   -- ---- and so do most acts
-  lined-acted : {p q : Point} {s s' : Site} {e : Event} → Act Any p s e q s' → Poised t ts p s
+  lined-acted : {p : Point} {s : Site} {q : Point} {s' : Site} {e : Event} → Act Any p s e q s' → Poised t ts p s
       → Turns y (line_at s) (e ∷ []) (line_at s')
   unfolding mute send_core pass_core beginning close_of done with_rows with_marks with_core with_queue with_doing with_hold
       with_stranger queue_of rows_of confirm take flight A.replies queue_by

@@ -113,7 +113,7 @@ module _ (p k limit : ℕ) where
   handed-high b s f e c (gone z) = still-gone p k limit _ f z
 
   -- ---- moves and acts
-  stands-moved : {x y : Point} {s s' : Site} → Move Any x s y s' → (f : Fate) → Stands x s f → Stands y s' f
+  stands-moved : {x : Point} {s : Site} {y : Point} {s' : Site} → Move Any x s y s' → (f : Fate) → Stands x s f → Stands y s' f
   unfolding Stands rest admit without with_core with_masters with_doing with_stranger with_ps resting fresh_core flight
   stands-moved (lets_go s h) f i = rested p k limit (h any) i
   stands-moved (rests s) f i = at_rest p k limit refl i
@@ -131,7 +131,7 @@ module _ (p k limit : ℕ) where
   opening : (d : ℕ) (f : Fate) → Pausing k d f → Opening k d f
   opening d f o = record { fresh = o.fresh; time = o.time }
 
-  stands-acted : {x y : Point} {s s' : Site} {e : Event} → Act Any x s e y s' → (f : Fate) → Stands x s f
+  stands-acted : {x : Point} {s : Site} {y : Point} {s' : Site} {e : Event} → Act Any x s e y s' → (f : Fate) → Stands x s f
       → Stands y s' (fate p (e ∷ []) f)
   unfolding Stands pass_core beginning once with_rows with_core with_queue with_doing with_hold with_stranger queue_of rows_of
       confirm take flight A.replies

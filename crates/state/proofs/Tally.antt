@@ -22,8 +22,7 @@ use Rattle.state.specs.declared.Priority.TheVariants.{High, Low}
 use Rattle.state.specs.declared.Doing.{Doing}
 use Rattle.state.specs.declared.Outcome.{Outcome}
 use Rattle.state.specs.declared.Outcome.TheVariants.{Replied, Lost, Gone}
-use Rattle.state.specs.World.{Rows, Site, What, aRequest, aToken, aReply, Event, accepted, begins, ends, sends}
-use Rattle.state.specs.World.{confirmed, collected, indicated, resets, refused}
+use Rattle.state.specs.World.{Rows, Site, What, aRequest, aToken, aReply, Event}
 use Rattle.state.specs.Request.{UNKNOWN, head_for, record_in, data_in, octets_in, service_of, status_of, marks_after}
 use Rattle.state.specs.Counts.{Mark, answered, settled, destination_in, control_in, counts, Pending, none, sent}
 use Rattle.state.specs.Counts.{History, marks_by, alike, closes, heeds, history, Turn, Rightly}

@@ -19,8 +19,8 @@ use Rattle.state.specs.declared.Priority.{Priority}
 use Rattle.state.specs.declared.Priority.TheVariants.{High, Low}
 use Rattle.state.specs.declared.Doing.{Doing}
 use Rattle.state.specs.declared.Core.{Core}
-use Rattle.state.specs.World.{Rows, Site, World, What, aRequest, aToken, aReply, Event, accepted, begins, ends}
-use Rattle.state.specs.World.{sends, confirmed, collected, indicated, resets, refused, done, with_doing}
+use Rattle.state.specs.World.{Rows, Site, World, What, aRequest, aToken, aReply, Event}
+use Rattle.state.specs.World.{sends, refused, done, with_doing}
 use Rattle.state.specs.World.{with_hold, with_stranger, with_ps, with_queue, queue_of, with_core, with_masters}
 use Rattle.state.specs.World.{with_marks, rows_of, with_rows}
 use Rattle.state.specs.Request.{head_for, record_in, octets_in, after_last, wait_for, sending, send_core, once, close_of}
@@ -124,7 +124,7 @@ served-record High s = refl
 served-record Low s = refl
 
 -- ---- moves and acts
-stands-moved : {p q : Point} {s s' : Site} → Move Any p s q s' → (b : Bool) → Stands p s.core.doing b
+stands-moved : {p : Point} {s : Site} {q : Point} {s' : Site} → Move Any p s q s' → (b : Bool) → Stands p s.core.doing b
     → Stands q s'.core.doing b
 unfolding Stands rest admit without with_core with_masters with_doing with_stranger with_ps resting fresh_core flight
     checking awaiting
@@ -136,7 +136,7 @@ stands-moved (drops s e h) b i = (i.checks (ap checking (e any))).0
 stands-moved (spares s h) b i = any
 stands-moved (renews m n masters s h j k) b i = unmindful refl refl refl
 
-stands-acted : (t : Settings) (ts : ℕ) {p q : Point} {s s' : Site} {e : Event} → Act Any p s e q s' → (b : Bool)
+stands-acted : (t : Settings) (ts : ℕ) {p : Point} {s : Site} {q : Point} {s' : Site} {e : Event} → Act Any p s e q s' → (b : Bool)
     → Poised t ts p s → Stands p s.core.doing b → Meets t e b × Stands q s'.core.doing (sdn_after e b)
 unfolding Stands of_sendings Goes sdn_after sdn_by send_core pass_core beginning close_of done once resting with_rows
     with_marks with_core with_queue with_doing with_hold with_stranger flight checking awaiting A.replies responder wait_for

@@ -1,6 +1,6 @@
 -- Every call, of any world, is refused whole or is a trail of moves and acts: the one walk through the rules. Assumes
 -- nothing.
-use Prim.Native.Nat.{ℕ, zero, suc, ◌+◌, ◌≤◌, ◌<◌}
+use Prim.Native.Nat.{ℕ, zero, suc, ◌≤◌, ◌<◌}
 use mathlib.Core.Bool.{Bool, true, false, true≢false}
 use mathlib.Core.Path.{◌≡◌, refl, sym, ap, ◌∙◌}
 use mathlib.Core.List.{List, [], ◌∷◌, ◌++◌}
@@ -198,7 +198,7 @@ module _ (k : Type 0) (m : List ℕ → Type 0) where
   goes-slot ToSelf clock s e i j = goes-still calm s i
 
 -- ---- the answering side
-trail-answers : {l : List Event} (s : Site) → Answers (responder s.core) l → Trail Any calm s l calm s
+trail-answers : (s : Site) {l : List Event} → Answers (responder s.core) l → Trail Any calm s l calm s
 trail-answers s none = stop
 trail-answers s (replied o l e a) = act (Acts.replies o s) (trail-answers s a)
 trail-answers s (shown h d l a) = act (Acts.shows any h d s) (trail-answers s a)

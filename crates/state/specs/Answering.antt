@@ -1,6 +1,6 @@
 -- Document 01, "Answering, Idle only, to TS or 127": by a responder, which is all that the answering side knows of its
 -- station. Assumes nothing.
-use Rattle.std.specs.Prelude.{ℕ, ◌≤◌, ◌≡◌, Bool, true, false, List, [], ◌∷◌, ◌++◌, length, get_or, take}
+use Rattle.std.specs.Prelude.{ℕ, ◌≤◌, ◌≡◌, Bool, true, false, List, [], ◌∷◌, length, get_or, take}
 use Rattle.choice.specs.Choice.{pick, less, same, said}
 use Rattle.control.specs.declared.Service.{Service}
 use Rattle.control.specs.declared.Service.TheVariants.{SdaLow, SdnLow, SdaHigh, SdnHigh, Status, SrdLow, SrdHigh}

@@ -1,6 +1,6 @@
 -- Document 01, "Station": the calls. Each goes from a world to a world and its events; a refused call leaves the world.
 -- Assumes nothing.
-use Rattle.std.specs.Prelude.{ℕ, zero, suc, ◌+◌, Bool, true, false, List, [], ◌∷◌, ◌++◌, length, replicate}
+use Rattle.std.specs.Prelude.{ℕ, zero, suc, Bool, false, List, [], ◌∷◌, ◌++◌, length, replicate}
 use Rattle.choice.specs.Choice.{pick, less, same, said}
 use Rattle.control.specs.declared.Kind.TheVariants.{InRing}
 use Rattle.frame.specs.declared.Fields.{Fields}
@@ -31,7 +31,7 @@ use Rattle.state.specs.declared.State.{State}
 use Rattle.state.specs.declared.Responder.{Responder}
 use Rattle.state.specs.declared.Outcome.TheVariants.{Gone}
 use Rattle.state.specs.World.{Rows, Site, World, Event, Done, Called, accepted, ends, confirmed, collected}
-use Rattle.state.specs.World.{resets, refused, still, done, and_then, with_queue, queue_of, with_core, rows_of}
+use Rattle.state.specs.World.{resets, refused, still, done, with_queue, queue_of, with_core, rows_of}
 use Rattle.state.specs.World.{with_rows, with_site, with_memory, state_of}
 use Rattle.state.specs.Request.{UNKNOWN, record_of, wait_for, judged}
 use Rattle.state.specs.Pass.{recheck}

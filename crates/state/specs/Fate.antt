@@ -2,7 +2,6 @@
 -- request is its place of the high queue, from its acceptance until its record is collected. Assumes nothing.
 use Rattle.std.specs.Prelude.{ℕ, ◌+◌, ◌<◌, ◌≤◌, Bool, true, false, ◌≡◌, List, [], ◌∷◌}
 use Rattle.choice.specs.Choice.{pick, same}
-use Rattle.request.specs.declared.Record.{Record}
 use Rattle.state.specs.declared.Priority.{Priority}
 use Rattle.state.specs.declared.Priority.TheVariants.{High, Low}
 use Rattle.state.specs.World.{What, aRequest, aToken, aReply, Event, accepted, begins, ends, sends, confirmed}

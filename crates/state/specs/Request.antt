@@ -1,7 +1,7 @@
 -- Document 01, "Requests": the octets of a request, its mark, its repeats, what is a plausible reply, and its
 -- confirmation. Assumes nothing.
-use Rattle.std.specs.Prelude.{ℕ, ◌+◌, Bool, true, false, List, [], ◌∷◌, length, get_or, set}
-use Rattle.choice.specs.Choice.{pick, less, same, said, both}
+use Rattle.std.specs.Prelude.{ℕ, ◌+◌, Bool, true, false, List, [], ◌∷◌, get_or, set}
+use Rattle.choice.specs.Choice.{pick, less, same, said}
 use Rattle.control.specs.declared.Service.{Service}
 use Rattle.control.specs.declared.Service.TheVariants.{SdaLow, SdnLow, SdaHigh, SdnHigh, SrdLow, SrdHigh}
 use Rattle.control.specs.declared.Code.{Code}
@@ -20,8 +20,7 @@ use Rattle.request.specs.Record.{SDA, SDN, NA, OK}
 use Rattle.queue.specs.declared.Queue.{Queue}
 use Rattle.queue.specs.Queue.{current}
 use Rattle.rows.specs.Rows.{Left, at, content, confirm}
-use Rattle.state.specs.declared.Phase.{Phase}
-use Rattle.state.specs.declared.Phase.TheVariants.{Idle, Awaited, Sdn}
+use Rattle.state.specs.declared.Phase.TheVariants.{Awaited, Sdn}
 use Rattle.state.specs.declared.Priority.{Priority}
 use Rattle.state.specs.declared.Priority.TheVariants.{High, Low}
 use Rattle.state.specs.declared.Doing.{Doing}

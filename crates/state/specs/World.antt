@@ -1,10 +1,9 @@
 -- What a call finds and leaves: the station's state and both rows with their data; and the events that happen in it. An
 -- act on the site goes from a site to a site and its events; acts in a row are one. Assumes nothing.
-use Rattle.std.specs.Prelude.{ℕ, List, [], ◌∷◌, ◌++◌}
+use Rattle.std.specs.Prelude.{ℕ, List, [], ◌++◌}
 use Rattle.frame.specs.declared.Address.{Address}
 use Rattle.frame.specs.declared.Head.{Head}
 use Rattle.frame.specs.declared.Part.{Part}
-use Rattle.ring.specs.declared.Masters.{Masters}
 use Rattle.request.specs.declared.Record.{Record}
 use Rattle.queue.specs.declared.Queue.{Queue}
 use Rattle.state.specs.declared.Priority.{Priority}

@@ -1,5 +1,7 @@
 // The state of a station and what a call answers; the definitions of every rule of document 01's "Station" are in
 // specs/. Assumes nothing.
+#![tactic(auto)]
+
 use clock::BitTime;
 use control::{Code, Kind};
 use frame::{Address, Head, Part};
@@ -104,7 +106,7 @@ pub enum Indication {
 }
 
 // What an act on the site leaves: the core, how many octets to send, and after which wait.
-#[derive(Clone, Copy)]
+#[derive(Drop)]
 pub struct Moved {
     pub core: Core,
     pub length: usize,
@@ -113,7 +115,7 @@ pub struct Moved {
 
 // What is answered to a request: what the memory keeps but for the octets, how many octets to send and after which
 // wait, and what is indicated.
-#[derive(Clone, Copy)]
+#[derive(Drop)]
 pub struct Spoken {
     pub kept: Kept,
     pub length: usize,
@@ -123,7 +125,7 @@ pub struct Spoken {
 
 // What frame, sent and slot answer where the arrays of the state are lent: the refusal or 0, the core and what the
 // memory keeps, how many octets to send and after which wait, and what is indicated.
-#[derive(Clone, Copy)]
+#[derive(Drop)]
 pub struct Heard {
     pub refused: u8,
     pub core: Core,
@@ -135,7 +137,7 @@ pub struct Heard {
 
 // What frame, sent and slot answer: the refusal or 0, the state, how many octets to send and after which wait, and what
 // is indicated.
-#[derive(Clone, Copy)]
+#[derive(Drop)]
 pub struct Answer {
     pub refused: u8,
     pub state: State,
@@ -145,7 +147,7 @@ pub struct Answer {
 }
 
 // What submit answers: the refusal or 0, the state, and the place taken.
-#[derive(Clone, Copy)]
+#[derive(Drop)]
 pub struct Accepted {
     pub refused: u8,
     pub state: State,
@@ -153,14 +155,14 @@ pub struct Accepted {
 }
 
 // What start and reset answer: the refusal or 0, and the state; where start refuses, a blank one that no call accepts.
-#[derive(Clone, Copy)]
+#[derive(Drop)]
 pub struct Renewed {
     pub refused: u8,
     pub state: State,
 }
 
 // What collect answers: the refusal or 0, the state, and the record handed back with its place's number.
-#[derive(Clone, Copy)]
+#[derive(Drop)]
 pub struct HandedBack {
     pub refused: u8,
     pub state: State,
