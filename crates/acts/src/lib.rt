@@ -1,5 +1,7 @@
 // The decisions of a hold as functions of values: the time that is left, the choice of what is sent, and what each act
 // makes of the core. Nothing here touches a row or an output. Assumes nothing.
+#![tactic(auto)]
+
 ghost use Rattle.std.specs.Prelude.{◌≡◌, ◌<◌};
 ghost use Rattle.times.specs.Times.{Small};
 ghost use Rattle.state.specs.World.{with_doing, with_hold, with_stranger, with_ps, with_queue, queue_of};

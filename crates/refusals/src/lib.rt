@@ -1,5 +1,7 @@
 // The station's refusals 20, 21, 22 and 29: what start refuses, and what every other call refuses in a state, in lent
 // rows and in buffers. Assumes nothing.
+#![tactic(auto)]
+
 ghost use Rattle.std.specs.Prelude.{◌≡◌, ◌*◌, ◌<◌, length};
 ghost use Rattle.choice.specs.Choice.{same};
 ghost use Rattle.ring.specs.Ring.{next_of};

@@ -1,0 +1,8 @@
+-- `acts::beginning` meets its contract.
+use Rattle.state.specs.Hold.{beginning}
+use borrow.Author.Rules.{rules}
+use Rattle.acts.proofs.beginning.Goals as goal
+
+pub returns : goal.returns
+unfolding beginning
+returns c = cc
