@@ -1,4 +1,6 @@
 // The lines of an input that comes in blocks, gathered one at a time in memory that does not grow. Assumes nothing.
+#![tactic(auto)]
+
 ghost use Rattle.std.specs.Prelude.{◌≡◌, [], ◌∷◌, ◌++◌, ◌≤◌, length, take};
 ghost use Rattle.laid.specs.Laid.{laid};
 ghost use Rattle.typed_lines.specs.Intake.{ROOM as Intake-as-ROOM, kept, Gathers};

@@ -1,0 +1,10 @@
+-- `typed::places::points_at` meets its contract: what the list says.
+use mathlib.Core.Path.{ap}
+use Rattle.typed.specs.Lists.{Listed, listed}
+use Rattle.typed.specs.Places.{is_points}
+use Rattle.typed.proofs.places.points_at.Goals as goal
+
+pub returns : goal.returns
+unfolding is_points listed
+returns c =
+    rw c.word.ensures at (ap (λ (x : Listed). x.good) c.points.ensures)

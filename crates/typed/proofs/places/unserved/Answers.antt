@@ -1,0 +1,20 @@
+-- `typed::places::unserved` meets its contract: each return is one case of the chain.
+use Rattle.choice.proofs.Rules.{asked}
+use Rattle.typed.specs.Places.{unserved}
+use Rattle.typed.proofs.places.unserved.Goals as goal
+
+pub returns-then-equal : goal.returns-then-equal
+unfolding unserved
+returns-then-equal c = search asked depth 20
+
+pub returns-then-equal-2 : goal.returns-then-equal-2
+unfolding unserved
+returns-then-equal-2 c = search asked depth 20
+
+pub returns-then-equal-3 : goal.returns-then-equal-3
+unfolding unserved
+returns-then-equal-3 c = search asked depth 20
+
+pub returns : goal.returns
+unfolding unserved
+returns c = search asked depth 20
