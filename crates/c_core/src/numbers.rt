@@ -29,7 +29,7 @@ pub struct FlatSettings {
 // The core of a station and what its memory keeps, as numbers. Phase is 0 Idle, 1 Reply awaited, 2 SDN going out, 3
 // Pass checked, 4 Pass to self; served is 0 for the high queue, 1 for the low; sdn and bit are 0 or 1.
 #[repr(C)]
-#[derive(Drop)]
+#[derive(Clone, Copy)]
 pub struct Numbers {
     pub settings: FlatSettings,
     pub acceptance: u32,

@@ -1,7 +1,6 @@
 -- `acts::accepting` meets its contract.
 use Rattle.state.specs.Hold.{accepting}
 use Rattle.choice.proofs.Rules.{less-true, less-false, pick_true, pick-false}
-use borrow.Author.Rules.{rules}
 use Rattle.acts.proofs.accepting.Goals as goal
 
 pub returns-then-begun-lt2 : goal.returns-then-begun-lt2

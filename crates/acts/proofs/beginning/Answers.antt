@@ -1,6 +1,5 @@
 -- `acts::beginning` meets its contract.
 use Rattle.state.specs.Hold.{beginning}
-use borrow.Author.Rules.{rules}
 use Rattle.acts.proofs.beginning.Goals as goal
 
 pub returns : goal.returns

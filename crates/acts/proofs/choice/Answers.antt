@@ -1,7 +1,6 @@
 -- `acts::choice` meets its contract.
 use Rattle.state.specs.Hold.{choice}
 use Rattle.choice.proofs.Rules.{picks, asked, flags}
-use borrow.Author.Rules.{rules}
 use Rattle.acts.proofs.choice.Goals as goal
 
 pub returns-then-starts : goal.returns-then-starts

@@ -1,7 +1,6 @@
 -- `acts::left` meets its contract.
 use Rattle.state.specs.Hold.{left}
 use Rattle.choice.proofs.Rules.{picks, asked}
-use borrow.Author.Rules.{rules}
 use Rattle.acts.proofs.left.Goals as goal
 
 pub returns-then-h-le1 : goal.returns-then-h-le1

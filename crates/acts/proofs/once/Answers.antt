@@ -1,6 +1,5 @@
 -- `acts::once` meets its contract.
 use Rattle.state.specs.Request.{once}
-use borrow.Author.Rules.{rules}
 use Rattle.acts.proofs.once.Goals as goal
 
 pub returns : goal.returns

@@ -1,6 +1,5 @@
 -- `acts::queue_of` meets its contract.
 use Rattle.state.specs.World.{queue_of}
-use borrow.Author.Rules.{rules}
 use Rattle.acts.proofs.queue_of.Goals as goal
 
 pub returns-in-High : goal.returns-in-High

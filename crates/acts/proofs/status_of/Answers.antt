@@ -1,6 +1,5 @@
 -- `acts::status_of` meets its contract.
 use Rattle.state.specs.Request.{status_of}
-use borrow.Author.Rules.{rules}
 use Rattle.acts.proofs.status_of.Goals as goal
 
 pub returns-in-Replied : goal.returns-in-Replied

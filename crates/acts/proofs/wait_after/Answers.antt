@@ -1,6 +1,5 @@
 -- `acts::wait_after` meets its contract.
 use Rattle.state.specs.Request.{wait_for}
-use borrow.Author.Rules.{rules}
 use Rattle.acts.proofs.wait_after.Goals as goal
 
 pub returns : goal.returns

@@ -1,6 +1,5 @@
 -- `acts::wait_for` meets its contract.
 use Rattle.state.specs.Request.{wait_for}
-use borrow.Author.Rules.{rules}
 use Rattle.acts.proofs.wait_for.Goals as goal
 
 pub returns : goal.returns

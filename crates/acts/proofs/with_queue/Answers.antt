@@ -1,6 +1,5 @@
 -- `acts::with_queue` meets its contract.
 use Rattle.state.specs.World.{with_queue}
-use borrow.Author.Rules.{rules}
 use Rattle.acts.proofs.with_queue.Goals as goal
 
 pub returns-in-High : goal.returns-in-High

@@ -1,7 +1,6 @@
 -- `refusals::alone` meets its contract.
 use mathlib.Core.Path.{sym}
 use Rattle.choice.proofs.Rules.{same_true, same_false}
-use borrow.Author.Rules.{rules}
 use Rattle.refusals.proofs.alone.Goals as goal
 
 pub returns-then-ns-ts : goal.returns-then-ns-ts

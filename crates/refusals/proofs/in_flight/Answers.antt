@@ -1,9 +1,8 @@
 -- `refusals::in_flight` meets its contract.
 use native.Mathlib.Omega.{arith}
-use mathlib.Core.Path.{◌≡◌}
+use mathlib.Core.Path.{◌≡◌, refl}
 use Rattle.state.proofs.Facts.{ruled-of, flight-high, flight-low}
 use Rattle.state.specs.World.{queue_of}
-use borrow.Author.Rules.{rules}
 use Rattle.refusals.proofs.in_flight.Goals as goal
 
 pub current-place-requires : goal.current-place-requires
@@ -13,13 +12,13 @@ current-place-requires c =
 pub at-requires : goal.at-requires
 unfolding queue_of
 at-requires c =
-    let q : c.queue_of-q.result.places ≡ c.args.c.high.places = cc in
+    let q : c.queue_of-q.result.places ≡ c.args.c.high.places = rw (c.queue_of-q.ensures, c.in-High.is) refl in
     omega (arith, q, c.current-place.ensures.1, c.requires.1.0)
 
 pub at-requires-in-Low : goal.at-requires-in-Low
 unfolding queue_of
 at-requires-in-Low c =
-    let q : c.queue_of-q.result.places ≡ c.args.c.low.places = cc in
+    let q : c.queue_of-q.result.places ≡ c.args.c.low.places = rw (c.queue_of-q.ensures, c.in-Low.is) refl in
     omega (arith, q, c.current-place.ensures.1, c.requires.1.1)
 
 pub returns-in-High : goal.returns-in-High

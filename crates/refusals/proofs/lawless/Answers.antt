@@ -3,7 +3,6 @@ use mathlib.Core.Path.{sym, ◌∙◌}
 use Rattle.state.proofs.Facts.{startable-ts, started-startable}
 use Rattle.state.specs.Refusals.{lawless}
 use Rattle.choice.proofs.Rules.{picks, asked}
-use borrow.Author.Rules.{rules}
 use Rattle.refusals.proofs.lawless.Goals as goal
 
 pub returns-then-unstarted : goal.returns-then-unstarted

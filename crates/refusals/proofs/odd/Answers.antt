@@ -1,7 +1,6 @@
 -- `refusals::odd` meets its contract.
 use Rattle.choice.proofs.Rules.{pick-not}
 use Rattle.state.specs.Refusals.{odd_in}
-use borrow.Author.Rules.{rules}
 use Rattle.refusals.proofs.odd.Goals as goal
 
 pub returns-in-Idle : goal.returns-in-Idle

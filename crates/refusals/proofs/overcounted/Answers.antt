@@ -1,7 +1,6 @@
 -- `refusals::overcounted` meets its contract.
 use Rattle.state.specs.Refusals.{overcounted}
 use Rattle.choice.proofs.Rules.{picks, asked}
-use borrow.Author.Rules.{rules}
 use Rattle.refusals.proofs.overcounted.Goals as goal
 
 pub returns-then-overfull : goal.returns-then-overfull

@@ -3,7 +3,6 @@ use mathlib.Core.Path.{sym, ◌∙◌}
 use Rattle.state.proofs.Facts.{lent_rows, lawful}
 use Rattle.state.specs.Refusals.{refusal_in}
 use Rattle.choice.proofs.Rules.{picks, asked}
-use borrow.Author.Rules.{rules}
 use Rattle.refusals.proofs.refusal.Goals as goal
 
 pub returns-then-unlent : goal.returns-then-unlent

@@ -1,6 +1,5 @@
 -- `refusals::unlent` meets its contract.
 use Rattle.state.specs.Refusals.{unlent}
-use borrow.Author.Rules.{rules}
 use Rattle.refusals.proofs.unlent.Goals as goal
 
 pub returns : goal.returns

@@ -1,7 +1,6 @@
 -- `refusals::unlike` meets its contract.
 use Rattle.choice.proofs.Rules.{pick-not}
 use Rattle.state.specs.Refusals.{unlike_in}
-use borrow.Author.Rules.{rules}
 use Rattle.refusals.proofs.unlike.Goals as goal
 
 pub returns-in-Idle : goal.returns-in-Idle

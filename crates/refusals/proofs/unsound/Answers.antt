@@ -1,9 +1,8 @@
 -- `refusals::unsound` meets its contract: the record in flight is asked first, which makes no difference. Assumes
 -- nothing.
 use Rattle.state.specs.Refusals.{sound_in, unsound}
-use Rattle.choice.proofs.Rules.{picks, asked, denied-false}
+use Rattle.choice.proofs.Rules.{picks, asked, asked-true}
 use Rattle.state.proofs.Facts.{unlike-unsound}
-use borrow.Author.Rules.{rules}
 use Rattle.refusals.proofs.unsound.Goals as goal
 
 pub returns-then-unlike : goal.returns-then-unlike
@@ -21,6 +20,6 @@ returns-then-not-sound-2 c = search (picks, asked) depth 20
 pub returns : goal.returns
 unfolding sound_in unsound
 returns c =
-    denied-false _ c.sound.ensures c.if-not-sound.false
-    (denied-false _ c.sound-2.ensures c.if-not-sound-2.false
+    asked-true _ c.sound.ensures c.if-not-sound.false
+    (asked-true _ c.sound-2.ensures c.if-not-sound-2.false
     (cc (c.if-unlike.false, c.unlike.ensures, c.in_flight-r.ensures)))

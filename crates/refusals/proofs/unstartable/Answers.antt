@@ -1,7 +1,6 @@
 -- `refusals::unstartable` meets its contract.
 use Rattle.state.specs.Refusals.{unstartable}
 use Rattle.choice.proofs.Rules.{picks, asked}
-use borrow.Author.Rules.{rules}
 use Rattle.refusals.proofs.unstartable.Goals as goal
 
 pub returns-then-unruly : goal.returns-then-unruly

@@ -3,7 +3,6 @@ use mathlib.Core.Path.{sym, ◌∙◌}
 use Rattle.state.proofs.Facts.{startable-ts}
 use Rattle.state.specs.Refusals.{unstarted}
 use Rattle.choice.proofs.Rules.{picks, asked}
-use borrow.Author.Rules.{rules}
 use Rattle.refusals.proofs.unstarted.Goals as goal
 
 pub returns-then-unstartable : goal.returns-then-unstartable

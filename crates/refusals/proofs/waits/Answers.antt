@@ -1,7 +1,6 @@
 -- `refusals::waits` meets its contract.
 use mathlib.Core.Path.{sym}
 use Rattle.choice.proofs.Rules.{same_true, same_false}
-use borrow.Author.Rules.{rules}
 use Rattle.refusals.proofs.waits.Goals as goal
 
 pub returns-then-q-eq0 : goal.returns-then-q-eq0
