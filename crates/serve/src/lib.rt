@@ -1,5 +1,7 @@
 // What a hold sends: a queue's first request, the same again, or the token. The core goes by value; rows, marks and
 // the set of masters are read, and the output is written. Assumes nothing.
+#![tactic(auto)]
+
 ghost use Rattle.std.specs.Prelude.{◌≡◌, ◌<◌, ◌≤◌, length};
 ghost use Rattle.ring.specs.Ring.{next_of};
 ghost use Rattle.laid.specs.Laid.{Lays};

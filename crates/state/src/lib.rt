@@ -73,7 +73,7 @@ pub struct Marks(pub [u8; 127]);
 pub struct Points(pub [u8; 64]);
 
 // Whose request was answered, 127 for none, with which bit, and how many octets the reply has.
-#[derive(Drop)]
+#[derive(Clone, Copy)]
 pub struct Kept {
     pub source: Address,
     pub bit: bool,
@@ -106,7 +106,7 @@ pub enum Indication {
 }
 
 // What an act on the site leaves: the core, how many octets to send, and after which wait.
-#[derive(Drop)]
+#[derive(Clone, Copy)]
 pub struct Moved {
     pub core: Core,
     pub length: usize,
@@ -115,7 +115,7 @@ pub struct Moved {
 
 // What is answered to a request: what the memory keeps but for the octets, how many octets to send and after which
 // wait, and what is indicated.
-#[derive(Drop)]
+#[derive(Clone, Copy)]
 pub struct Spoken {
     pub kept: Kept,
     pub length: usize,
@@ -125,7 +125,7 @@ pub struct Spoken {
 
 // What frame, sent and slot answer where the arrays of the state are lent: the refusal or 0, the core and what the
 // memory keeps, how many octets to send and after which wait, and what is indicated.
-#[derive(Drop)]
+#[derive(Clone, Copy)]
 pub struct Heard {
     pub refused: u8,
     pub core: Core,

@@ -1,4 +1,6 @@
 // The station's calls submit and collect: each takes any state, any row and any octets, and answers. Assumes nothing.
+#![tactic(auto)]
+
 ghost use Rattle.std.specs.Prelude.{◌≡◌, ◌≤◌};
 ghost use Rattle.request.specs.Record.{limited as record_limited};
 ghost use Rattle.queue.specs.Queue.{misfit};
