@@ -1,4 +1,6 @@
 // How a token is taken in Idle, and how a pass is checked: the acts that change the set of masters. Assumes nothing.
+#![tactic(auto)]
+
 ghost use Rattle.std.specs.Prelude.{◌≡◌, ◌<◌, ◌≤◌, length, [], ◌∷◌};
 ghost use Rattle.state.specs.World.{rows, site_of, with_doing, aToken, sends};
 ghost use Rattle.state.specs.Request.{once, wait_for};
