@@ -2,7 +2,7 @@
 use Prim.Native.Nat.{ℕ, ◌<◌, ◌≤◌}
 use mathlib.Core.Bool.{false}
 use mathlib.Core.Path.{◌≡◌, refl, sym, ap, ◌∙◌}
-use mathlib.Core.List.{List, [], ◌∷◌}
+use mathlib.Core.List.{List, []}
 use Rattle.choice.proofs.Rules.{if-less, unless-less}
 use Rattle.request.specs.declared.Record.{Record}
 use Rattle.request.proofs.Laws.{fit-limit}

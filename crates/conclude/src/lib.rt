@@ -1,4 +1,6 @@
 // How a request ends, and what follows: the acts that change rows and marks. Assumes nothing.
+#![tactic(auto)]
+
 ghost use Rattle.std.specs.Prelude.{◌≡◌, ◌<◌, ◌≤◌, [], length};
 ghost use Rattle.queue.specs.Queue.{AREA};
 ghost use Rattle.rows.specs.Rows.{Lent, left, confirm as rows_confirm};

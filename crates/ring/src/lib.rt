@@ -9,7 +9,7 @@ ghost use Rattle.ring.specs.Ring.{remove as ring_remove, member as ring_member};
 use frame::Address;
 
 // The set of masters: 1 at each address that is in it.
-#[derive(Drop)]
+#[derive(Clone, Copy)]
 pub struct Masters(pub [u8; 127]);
 
 // The address some steps on, past 126 to 0.

@@ -65,11 +65,11 @@ pub struct Core {
 }
 
 // The frame count mark of each address: the next bit, or 2 for unknown.
-#[derive(Drop)]
+#[derive(Clone, Copy)]
 pub struct Marks(pub [u8; 127]);
 
 // The active access points: 1 at each point 0..62 that is active, and at 63 if "none" is.
-#[derive(Drop)]
+#[derive(Clone, Copy)]
 pub struct Points(pub [u8; 64]);
 
 // Whose request was answered, 127 for none, with which bit, and how many octets the reply has.
@@ -81,14 +81,14 @@ pub struct Kept {
 }
 
 // The answering memory, with the reply's octets.
-#[derive(Drop)]
+#[derive(Clone, Copy)]
 pub struct Memory {
     pub kept: Kept,
     pub octets: [u8; 255],
 }
 
 // The state of a station.
-#[derive(Drop)]
+#[derive(Clone, Copy)]
 pub struct State {
     pub core: Core,
     pub masters: Masters,
@@ -137,7 +137,7 @@ pub struct Heard {
 
 // What frame, sent and slot answer: the refusal or 0, the state, how many octets to send and after which wait, and what
 // is indicated.
-#[derive(Drop)]
+#[derive(Clone, Copy)]
 pub struct Answer {
     pub refused: u8,
     pub state: State,
@@ -147,7 +147,7 @@ pub struct Answer {
 }
 
 // What submit answers: the refusal or 0, the state, and the place taken.
-#[derive(Drop)]
+#[derive(Clone, Copy)]
 pub struct Accepted {
     pub refused: u8,
     pub state: State,
@@ -155,14 +155,14 @@ pub struct Accepted {
 }
 
 // What start and reset answer: the refusal or 0, and the state; where start refuses, a blank one that no call accepts.
-#[derive(Drop)]
+#[derive(Clone, Copy)]
 pub struct Renewed {
     pub refused: u8,
     pub state: State,
 }
 
 // What collect answers: the refusal or 0, the state, and the record handed back with its place's number.
-#[derive(Drop)]
+#[derive(Clone, Copy)]
 pub struct HandedBack {
     pub refused: u8,
     pub state: State,

@@ -1,4 +1,6 @@
 // The station's calls start and reset. Assumes nothing.
+#![tactic(auto)]
+
 pub mod resetting;
 pub mod starting;
 

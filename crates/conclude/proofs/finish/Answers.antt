@@ -1,0 +1,21 @@
+-- `conclude::finish` meets its contract: the rows are in order after the confirmation.
+use Rattle.conclude.proofs.Closing.{sited-closed}
+use Rattle.conclude.proofs.Ending.{does-ended}
+use Rattle.conclude.proofs.finish.Goals as goal
+
+pub choose-requires : goal.choose-requires
+choose-requires c =
+    let p = c.requires in
+    (sited-closed _ _ _ _ _ _ p.0 p.1.1.0 p.1.0 c.close-core.ensures, p.1.1.1)
+
+pub returns : goal.returns
+returns c =
+    does-ended c.close-core.ensures _ c.choose.ensures
+
+-- UNPLACED inline: c.close-core.auto.1.1.1.1.0
+
+-- UNPLACED inline: c.close-core.auto.1.1.1.1.1.0
+
+-- UNPLACED inline: c.close-core.auto.1.1.1.1.1.1.0
+
+-- UNPLACED inline: c.close-core.auto.1.1.1.1.1.1.1.0
