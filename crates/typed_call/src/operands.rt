@@ -2,7 +2,7 @@
 // line means stands in specs/. Assumes nothing.
 ghost use Rattle.std.specs.Prelude.{◌≡◌, ◌≤◌, length, take};
 ghost use Rattle.typed.specs.Words.{word};
-ghost use Rattle.typed.specs.Places.{access as places_access, service as places_service, LONG as Places-as-LONG};
+ghost use Rattle.typed.specs.Places.{access as places_access, service as places_service, LONG as places_long};
 ghost use Rattle.typed.specs.Places.{LONGEST, MOSTOCTETS};
 ghost use Rattle.typed_call.specs.Table.{SERVICE};
 ghost use Rattle.typed_call.specs.Operands.{number_at, octets_at, octet as operands_octet};
@@ -29,7 +29,7 @@ fn number(line: &[u8], k: usize, most: u32) -> u32
 
 // A bit time that word k is.
 fn time(line: &[u8], k: usize) -> BitTime
-    ensures { result.0 ≡ number_at line.now k Places-as-LONG }
+    ensures { result.0 ≡ number_at line.now k places_long }
 {
     BitTime(number(line, k, LONG))
 }

@@ -1,11 +1,11 @@
 -- A printed number reads back as itself. Assumes nothing.
 use Prim.Native.Nat.{ℕ, zero, suc, ◌+◌, ◌-◌, ◌*◌, ◌/◌, ◌%◌, ◌<◌, ◌≤◌}
-use mathlib.Core.Bool.{Bool, true, false, true≢false}
+use mathlib.Core.Bool.{Bool, true, false}
 use mathlib.Core.List.{List, [], ◌∷◌, ◌++◌}
-use mathlib.Core.Path.{◌≡◌, refl, sym, ◌∙◌}
+use mathlib.Core.Path.{◌≡◌, refl, ◌∙◌}
 use native.Mathlib.Omega.{arith}
 use lib.ListN.{length, length-append}
-use Rattle.choice.specs.Choice.{pick, less, said}
+use Rattle.choice.specs.Choice.{less, said}
 use Rattle.choice.proofs.Rules.{pick_true, pick-false, less-false, true-less, false-less, same_false, said-true}
 use Rattle.choice.proofs.Rules.{both_true}
 use Rattle.typed.specs.Digits.{digit, all_digits, value_on, number, read_on, decimal}

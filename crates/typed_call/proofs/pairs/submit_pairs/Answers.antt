@@ -1,0 +1,33 @@
+-- `typed_call::pairs::submit_pairs` meets its contract: each return is one case of the chain.
+use mathlib.Core.Path.{refl, sym, ap, ◌∙◌}
+use Rattle.choice.proofs.Rules.{denied-true, denied-false, same_true, same_false}
+use Rattle.typed.specs.declared.places.Pair.{Pair}
+use Rattle.typed_call.specs.Pairs.{submit_pairs}
+use Rattle.typed_call.proofs.pairs.submit_pairs.Goals as goal
+
+pub returns-then-not-reference : goal.returns-then-not-reference
+unfolding submit_pairs
+returns-then-not-reference c =
+    denied-true _ (ap (λ (p : Pair). p.number.good) c.reference.ensures.0) c.if-not-reference.true refl
+
+pub returns-then-not-last : goal.returns-then-not-last
+unfolding submit_pairs
+returns-then-not-last c =
+    denied-false _ (ap (λ (p : Pair). p.number.good) c.reference.ensures.0) c.if-not-reference.false
+    (denied-true _ (ap (λ (p : Pair). p.number.good) c.limit-last.ensures) c.if-not-last.true refl)
+
+pub returns-then-count-last : goal.returns-then-count-last
+unfolding submit_pairs
+returns-then-count-last c =
+    let behind = ap (λ (p : Pair). p.behind) c.limit-last.ensures in
+    denied-false _ (ap (λ (p : Pair). p.number.good) c.reference.ensures.0) c.if-not-reference.false
+    (denied-false _ (ap (λ (p : Pair). p.number.good) c.limit-last.ensures) c.if-not-last.false
+    (sym (same_true (sym c.count.ensures ∙ c.if-count-last.true ∙ behind))))
+
+pub returns : goal.returns
+unfolding submit_pairs
+returns c =
+    let behind = ap (λ (p : Pair). p.behind) c.limit-last.ensures in
+    denied-false _ (ap (λ (p : Pair). p.number.good) c.reference.ensures.0) c.if-not-reference.false
+    (denied-false _ (ap (λ (p : Pair). p.number.good) c.limit-last.ensures) c.if-not-last.false
+    (sym (same_false (λ e. c.if-count-last.false (c.count.ensures ∙ e ∙ sym behind)))))
