@@ -2,11 +2,10 @@
 -- lays one line more; the walk ends at a cut body or behind the last. Assumes nothing.
 use Prim.Native.Nat.{ℕ, suc, ◌+◌, ◌-◌, ◌*◌, ◌≤◌, ◌<◌}
 use mathlib.Core.List.{List, [], ◌++◌, append_assoc}
-use mathlib.Core.Path.{◌≡◌, refl, sym, ap, ◌∙◌}
+use mathlib.Core.Path.{◌≡◌, sym, ap, ◌∙◌}
 use native.Mathlib.Omega.{arith}
 use native.Mathlib.Nat.{zero-add}
 use lib.ListN.{length, drop}
-use Rattle.choice.specs.Choice.{pick, less}
 use Rattle.choice.proofs.Rules.{unless-less, less-true, less-false, pick_true, pick-false}
 use Rattle.frame.specs.Reading.{part}
 use Rattle.laid.specs.Laid.{Lays}

@@ -1,5 +1,5 @@
 -- Document 01, "Lister": what is printed of a capture, as octets of text. Assumes nothing.
-use Rattle.std.specs.Prelude.{ℕ, zero, suc, ◌+◌, ◌-◌, ◌*◌, List, [], ◌∷◌, ◌++◌, length, drop}
+use Rattle.std.specs.Prelude.{ℕ, zero, suc, ◌+◌, ◌-◌, ◌*◌, List, ◌∷◌, ◌++◌, length, drop}
 use Rattle.choice.specs.Choice.{pick, less}
 use Rattle.frame.specs.Reading.{octet, part}
 use Rattle.capture.specs.Line.{newline, line}

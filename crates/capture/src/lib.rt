@@ -1,4 +1,6 @@
 // The lister: the lines of a commissioning capture, laid into a lent output. A capture is only read. Assumes nothing.
+#![tactic(auto)]
+
 ghost use Rattle.std.specs.Prelude.{◌≡◌, ◌+◌, ◌*◌, ◌≤◌, length};
 ghost use Rattle.frame_laws.specs.Terms.{Octets};
 ghost use Rattle.laid.specs.Laid.{Lays};

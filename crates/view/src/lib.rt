@@ -1,5 +1,7 @@
 // The reader of an accepted frame: it refers to the caller's octets and shows the frame's data as that part of them.
-// Each function over it is thin, and proved by a walk of its own. Assumes nothing.
+// Each function over it is thin. Assumes nothing.
+#![tactic(auto)]
+
 ghost use Rattle.std.specs.Prelude.{◌≡◌};
 ghost use Rattle.frame.specs.Reading.{shown as reading_shown};
 ghost use Rattle.view.specs.View.{part_of};
@@ -32,7 +34,7 @@ pub fn shown<'a>(r: Reader<'a>) -> &'a [u8]
     read::part(r.octets, r.start, r.count)
 }
 
-// The data of an accepted frame, through its reader: whoever calls this needs no walk.
+// The data of an accepted frame, through its reader.
 pub fn data_of(octets: &[u8], p: Part) -> &[u8]
     ensures { result.now ≡ reading_shown octets.now p }
 {
