@@ -1,6 +1,7 @@
 // A row of request records as a slice of structs lent by the caller, with its data area: submit, confirm and collect,
-// thin over the queue's decisions. What each leaves is what `rows` leaves of the octets that the row stands for. Each
-// function over the slice is proved by a walk of its own. Assumes nothing.
+// thin over the queue's decisions. What each leaves is what `rows` leaves of the octets that the row stands for.
+#![tactic(auto)]
+
 ghost use Rattle.std.specs.Prelude.{◌≡◌, ◌+◌, ◌*◌, ◌<◌, ◌≤◌, length};
 ghost use Rattle.request.specs.Record.{SIZE};
 ghost use Rattle.queue.specs.Queue.{AREA, Ruled, taken, closed};
@@ -75,8 +76,7 @@ pub fn submit(
     area: &mut [u8],
 ) -> Taken
     requires { (Ruled q) × (Lent q (row_of row.old) area.old) }
-    ensures { left result (row_of row.new) area.new
-        ≡ submitted ts.0 q r x.now (row_of row.old) area.old }
+    ensures { left result (row_of row.new) area.new ≡ submitted ts.0 q r x.now (row_of row.old) area.old }
 {
     store(take(ts, q, r, x, area), row)
 }
@@ -102,8 +102,7 @@ pub fn confirm(
 ) -> Queue
     requires { (Ruled q)
         × ((0 < q.unconfirmed) × (Lent q (row_of row.old) area.old × (length x.now ≤ AREA))) }
-    ensures { left result (row_of row.new) area.new
-        ≡ rows_confirm q status count x.now (row_of row.old) area.old }
+    ensures { left result (row_of row.new) area.new ≡ rows_confirm q status count x.now (row_of row.old) area.old }
 {
     let place = queue::current(q);
     let at = place as usize;
