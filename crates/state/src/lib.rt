@@ -73,7 +73,7 @@ pub struct Marks(pub [u8; 127]);
 pub struct Points(pub [u8; 64]);
 
 // Whose request was answered, 127 for none, with which bit, and how many octets the reply has.
-#[derive(Drop)]
+#[derive(Clone, Copy)]
 pub struct Kept {
     pub source: Address,
     pub bit: bool,
