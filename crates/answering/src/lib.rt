@@ -1,5 +1,7 @@
 // The answering side: what a responder answers to a request, by its address and its service. It touches no queue and no
 // token. Assumes nothing.
+#![tactic(auto)]
+
 ghost use Rattle.std.specs.Prelude.{◌≡◌};
 ghost use Rattle.choice.specs.Choice.{same, either};
 ghost use Rattle.state.specs.Answering.{Asked, memory, answer_as, answer_to};

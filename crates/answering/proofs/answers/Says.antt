@@ -12,7 +12,7 @@ use Rattle.frame.specs.declared.Access.TheVariants.{None, At}
 use Rattle.frame.specs.declared.Head.{Head}
 use Rattle.frame.specs.declared.Part.{Part}
 use Rattle.frame.specs.Format.{outside}
-use Rattle.laid.specs.Laid.{laid, Lays}
+use Rattle.laid.specs.Laid.{Lays}
 use Rattle.laid.proofs.Laws.{laid_nil}
 use Rattle.state.specs.declared.Kept.{Kept}
 use Rattle.state.specs.declared.Spoken.{Spoken}
