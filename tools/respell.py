@@ -29,7 +29,7 @@ LEMMAS = {
 # what is cut from a lemma's name in front of a dash, and is no name beside the function's
 ASIDE = {"up_to"}
 WORD = re.compile(r"[A-Za-z0-9_]+")
-CAMEL = re.compile(r"[a-z][a-z0-9_]*[a-z0-9][A-Z]\w*")
+CAMEL = re.compile(r"[a-z](?:[a-z0-9_]*[a-z0-9])?[A-Z]\w*")
 DOTTED = re.compile(r"(?<![\w#'-])([A-Z]\w*)·(\w+)")
 
 

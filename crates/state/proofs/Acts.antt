@@ -25,7 +25,7 @@ use Rattle.state.specs.declared.Choice.TheVariants.{Serve, PassOn}
 use Rattle.state.specs.declared.Outcome.{Outcome}
 use Rattle.state.specs.declared.Outcome.TheVariants.{Replied, Lost, Gone}
 use Rattle.state.specs.World.{Site, Event, accepted, begins, ends, sends, confirmed, collected, indicated}
-use Rattle.state.specs.World.{resets, aRequest, aToken, with_doing, with_stranger, with_queue, queue_of, with_core}
+use Rattle.state.specs.World.{resets, a_request, a_token, with_doing, with_stranger, with_queue, queue_of, with_core}
 use Rattle.state.specs.World.{rows_of, with_rows}
 use Rattle.state.specs.Request.{UNKNOWN, octets_in, record_of, after_last, wait_for, send_core, once, status_of, close_of}
 use Rattle.state.specs.Pass.{ns, token_to, pass_core, without}
@@ -87,10 +87,10 @@ octets_of y s = octets_in s.core.ts y (queue_of y s.core) s.marks (rows_of y s)
 -- what is told of a sending: of a request, for the first time and again, and of the token
 abbrev pub first_sending : Priority → Site → Event
 first_sending y s =
-    sends (aRequest y (current (queue_of y s.core))) (octets_of y s) (wait_for s.core (after_last s.core))
+    sends (a_request y (current (queue_of y s.core))) (octets_of y s) (wait_for s.core (after_last s.core))
 
 abbrev pub next_sending : Priority → Site → Event
-next_sending y s = sends (aRequest y (current (queue_of y s.core))) (octets_of y s) (wait_for s.core Other)
+next_sending y s = sends (a_request y (current (queue_of y s.core))) (octets_of y s) (wait_for s.core Other)
 
 abbrev pub closing : Priority → Outcome → Site → Event
 closing y o s = confirmed y (current (queue_of y s.core)) (status_of o) s.core.doing.sendings
@@ -129,10 +129,10 @@ pub data Act (k : Type 0) : Point → Site → Event → Point → Site → Type
       → Act k (choosing starts) s ends passing s
   quits : (s : Site) → Act k (choosing false) s ends free s
   passes : (s : Site)
-      → Act k passing s (sends aToken (token_to (ns s) s.core) (wait_for s.core (after_last s.core))) calm
+      → Act k passing s (sends a_token (token_to (ns s) s.core) (wait_for s.core (after_last s.core))) calm
       (with_core (pass_core (ns s) s.core) s)
   repasses : (s : Site) → (k → s.core.doing.phase ≡ Check) → s.core.doing.sendings < 3
-      → Act k calm s (sends aToken (token_to (ns s) s.core) (wait_for s.core Other)) calm (sent_again s)
+      → Act k calm s (sends a_token (token_to (ns s) s.core) (wait_for s.core Other)) calm (sent_again s)
   repeats : (y : Priority) (s : Site) → s.core.doing.served ≡ y → (k → s.core.doing.phase ≡ Awaited)
       → s.core.doing.sendings ≤ (record_of y s).limit → Act k calm s (next_sending y s) calm (sent_again s)
   closes : (y : Priority) (p : Phase) (o : Outcome) (x : List ℕ) (s : Site) → s.core.doing.served ≡ y

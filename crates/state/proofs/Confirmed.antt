@@ -10,7 +10,7 @@ use Rattle.queue.specs.declared.Queue.{Queue}
 use Rattle.queue.specs.Queue.{AREA, current, closed}
 use Rattle.rows.specs.Rows.{at, content}
 use Rattle.state.specs.declared.Priority.{Priority}
-use Rattle.state.specs.World.{Rows, Site, World, Event, Called, aRequest, accepted, begins, ends, sends}
+use Rattle.state.specs.World.{Rows, Site, World, Event, Called, a_request, accepted, begins, ends, sends}
 use Rattle.state.specs.World.{confirmed, collected, indicated, resets, refused, rows_of}
 use Rattle.state.specs.Calls.{refuse}
 use Rattle.state.specs.Runs.{Call, call, run, Begun}
@@ -199,10 +199,10 @@ module _ (w : World) (b : Begun w) (before : List Call) (c : Call) (p : Priority
 
     -- it is not sent again;
     pub confirmed-unsent : (earlier later : List Event) (o : List ℕ) (t : ℕ)
-        → (run after then).events ≡ earlier ++ (sends (aRequest p n) o t ∷ later) → never (collects p n) earlier ≡ true
+        → (run after then).events ≡ earlier ++ (sends (a_request p n) o t ∷ later) → never (collects p n) earlier ≡ true
         → ⊥
     confirmed-unsent earlier later o t i j =
-        asked-sent p n _ _ o t (asked earlier later (sends (aRequest p n) o t) i j)
+        asked-sent p n _ _ o t (asked earlier later (sends (a_request p n) o t) i j)
 
     -- and collect hands back that record
     pub confirmed-handed : (earlier later : List Event) (r : Record)

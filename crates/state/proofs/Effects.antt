@@ -20,7 +20,7 @@ use Rattle.state.specs.declared.Priority.{Priority}
 use Rattle.state.specs.declared.Priority.TheVariants.{High, Low}
 use Rattle.state.specs.declared.Choice.TheVariants.{Serve}
 use Rattle.state.specs.declared.Outcome.{Outcome}
-use Rattle.state.specs.World.{Rows, Site, What, aRequest, aToken, aReply, Event, accepted, begins, ends, sends}
+use Rattle.state.specs.World.{Rows, Site, What, a_request, a_token, a_reply, Event, accepted, begins, ends, sends}
 use Rattle.state.specs.World.{confirmed, collected, indicated, resets, refused, done, with_doing, with_hold}
 use Rattle.state.specs.World.{with_stranger, with_ps, with_queue, queue_of, with_core, with_masters, with_marks}
 use Rattle.state.specs.World.{rows_of, with_rows}
@@ -42,9 +42,9 @@ use Rattle.state.proofs.Tally.{rows_by}
 
 -- whether an event is about a request of the queue y
 unfoldable pub about_what : Priority → What → Bool
-about_what y (aRequest q n) = alike y q
-about_what y aToken = false
-about_what y aReply = false
+about_what y (a_request q n) = alike y q
+about_what y a_token = false
+about_what y a_reply = false
 
 unfoldable pub about : Priority → Event → Bool
 about y (accepted q n) = alike y q
@@ -75,7 +75,7 @@ closed_by q u status k x =
 pub data Effect (y : Priority) (ts : Address) (q : Queue) (u : Rows) : Event → Queue → Rows → Type 0 where
   spared : (e : Event) → about y e ≡ false → Effect y ts q u e q u
   sent : (marks : List ℕ) (t : ℕ) → 0 < q.unconfirmed
-      → Effect y ts q u (sends (aRequest y (current q)) (octets_in ts y q marks u) t) q u
+      → Effect y ts q u (sends (a_request y (current q)) (octets_in ts y q marks u) t) q u
   taken : (r : Record) (x : List ℕ) → q.confirmed + q.unconfirmed < q.places → length x ≤ AREA
       → Effect y ts q u (accepted y (place q (q.confirmed + q.unconfirmed))) (grown q) (taken_by q u r x)
   shut : (status k : ℕ) (x : List ℕ) → 0 < q.unconfirmed → length x ≤ AREA
@@ -120,7 +120,7 @@ left-moved y (renews a b masters s h i j) = record { queue = refl; rows = refl }
 -- ---- acts on the queue itself, and on the other
 effect-sent : (y z : Priority) (s : Site) (t : ℕ) → 0 < (queue_at z s).unconfirmed
     → Effect y s.core.ts (queue_at y s) (rows_at y s)
-    (sends (aRequest z (current (queue_of z s.core))) (octets_of z s) t) (queue_at y s) (rows_at y s)
+    (sends (a_request z (current (queue_of z s.core))) (octets_of z s) t) (queue_at y s) (rows_at y s)
 unfolding queue_by rows_by queue_of rows_of about about_what alike
 effect-sent High High s t h = sent s.marks t h
 effect-sent High Low s t h = spared _ refl

@@ -10,7 +10,7 @@ use Rattle.frame.specs.declared.Part.{Part}
 use Rattle.request.specs.declared.Record.{Record}
 use Rattle.state.specs.declared.Priority.{Priority}
 use Rattle.state.specs.declared.Priority.TheVariants.{High, Low}
-use Rattle.state.specs.World.{aRequest, aToken, aReply, Event, accepted, begins, ends, sends, confirmed}
+use Rattle.state.specs.World.{a_request, a_token, a_reply, Event, accepted, begins, ends, sends, confirmed}
 use Rattle.state.specs.World.{collected, indicated, resets, refused}
 use Rattle.state.specs.Fate.{Fate, newborn, sent_once, confirmed_with, hold_begun, hold_ended, was_reset}
 use Rattle.state.specs.Fate.{collected_with, of_high, sent_what, meets, fate}
@@ -59,23 +59,23 @@ pub stays : (p : ℕ) (e : Event) (f : Fate) → meets p e f ≡ f → fate p (e
 stays p e f h = unmoved p e [] f h ∙ fate-none p f
 
 pub meets-sent : (p n : ℕ) (o : List ℕ) (t : ℕ) (f : Fate) → n ≡ p
-    → meets p (sends (aRequest High n) o t) f ≡ sent_once f
+    → meets p (sends (a_request High n) o t) f ≡ sent_once f
 unfolding meets sent_what of_high
 meets-sent p n o t f e = pick_true _ _ (same_true e)
 
-pub meets-other : (p n : ℕ) (o : List ℕ) (t : ℕ) (f : Fate) → (n ≡ p → ⊥) → meets p (sends (aRequest High n) o t) f ≡ f
+pub meets-other : (p n : ℕ) (o : List ℕ) (t : ℕ) (f : Fate) → (n ≡ p → ⊥) → meets p (sends (a_request High n) o t) f ≡ f
 unfolding meets sent_what of_high
 meets-other p n o t f e = pick-false _ _ (same_false e)
 
-pub meets-low : (p n : ℕ) (o : List ℕ) (t : ℕ) (f : Fate) → meets p (sends (aRequest Low n) o t) f ≡ f
+pub meets-low : (p n : ℕ) (o : List ℕ) (t : ℕ) (f : Fate) → meets p (sends (a_request Low n) o t) f ≡ f
 unfolding meets sent_what of_high
 meets-low p n o t f = refl
 
-pub meets-token : (p : ℕ) (o : List ℕ) (t : ℕ) (f : Fate) → meets p (sends aToken o t) f ≡ f
+pub meets-token : (p : ℕ) (o : List ℕ) (t : ℕ) (f : Fate) → meets p (sends a_token o t) f ≡ f
 unfolding meets sent_what
 meets-token p o t f = refl
 
-pub meets-reply : (p : ℕ) (o : List ℕ) (t : ℕ) (f : Fate) → meets p (sends aReply o t) f ≡ f
+pub meets-reply : (p : ℕ) (o : List ℕ) (t : ℕ) (f : Fate) → meets p (sends a_reply o t) f ≡ f
 unfolding meets sent_what
 meets-reply p o t f = refl
 

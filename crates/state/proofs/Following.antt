@@ -11,7 +11,7 @@ use Rattle.control.specs.declared.Service.{Service}
 use Rattle.control.specs.Control.{counted}
 use Rattle.request.specs.Record.{NA}
 use Rattle.state.specs.declared.Priority.{Priority}
-use Rattle.state.specs.World.{World, aRequest, aToken, aReply, Event, accepted, begins, ends, sends, confirmed}
+use Rattle.state.specs.World.{World, a_request, a_token, a_reply, Event, accepted, begins, ends, sends, confirmed}
 use Rattle.state.specs.World.{collected, indicated, resets, refused}
 use Rattle.state.specs.Runs.{Call, run, Begun}
 use Rattle.state.specs.Counts.{Mark, unknown, next, bits_for, due, answered, settled, destination_in, control_in}
@@ -92,11 +92,11 @@ module _ (p : Priority) (n : ℕ) (o : List ℕ) where
   stands (accepted q m ∷ l) h e u c = stands l h e u c.1
   stands (begins ∷ l) h e u c = stands l h e u c.1
   stands (ends ∷ l) h e u c = stands l h e u c.1
-  stands (sends (aRequest q j) x t ∷ l) h e u c =
+  stands (sends (a_request q j) x t ∷ l) h e u c =
       let i = sent-again p q n j o x h _ refl e c.0.turn in
       ap (history l) i ∙ stands l h e u (rw i at c.1)
-  stands (sends aToken x t ∷ l) h e u c = stands l h e u c.1
-  stands (sends aReply x t ∷ l) h e u c = stands l h e u c.1
+  stands (sends a_token x t ∷ l) h e u c = stands l h e u c.1
+  stands (sends a_reply x t ∷ l) h e u c = stands l h e u c.1
   stands (confirmed q m status k ∷ l) h e u c =
       let b = not-both _ _ _ u in
       let i = ap (λ (x : Pending). closes q m status x h) e ∙ closes-other q p m n status o h b.0 in
@@ -109,7 +109,7 @@ module _ (p : Priority) (n : ℕ) (o : List ℕ) where
 -- ---- while no SDA or SRD goes to an address, its mark stands
 unfoldable Clear : ℕ → Pending → Type 0
 Clear a none = Any
-Clear a (sent p n o) = aims a (aRequest p n) o ≡ false
+Clear a (sent p n o) = aims a (a_request p n) o ≡ false
 
 record Kept (a : ℕ) (h : History) (x : History) : Type 0 where
   mark : x.marks a ≡ h.marks a
@@ -131,7 +131,7 @@ kept-closed a q m status h (sent p n o) e c =
     (λ g. record { mark = refl; clear = rw e c }))
     (λ f. record { mark = refl; clear = rw e c })
 
-clear-sent : (a : ℕ) (q : Priority) (j : ℕ) (x : List ℕ) → aims a (aRequest q j) x ≡ false → Clear a (sent q j x)
+clear-sent : (a : ℕ) (q : Priority) (j : ℕ) (x : List ℕ) → aims a (a_request q j) x ≡ false → Clear a (sent q j x)
 unfolding Clear
 clear-sent a q j x e = e
 
@@ -146,11 +146,11 @@ module _ (a : ℕ) where
   kept (accepted q m ∷ l) h c u = kept l h c u
   kept (begins ∷ l) h c u = kept l h c u
   kept (ends ∷ l) h c u = kept l h c u
-  kept (sends (aRequest q j) x t ∷ l) h c u =
+  kept (sends (a_request q j) x t ∷ l) h c u =
       let b = both_false _ _ u in
       kept l _ (clear-sent a q j x b.0) b.1
-  kept (sends aToken x t ∷ l) h c u = kept l h c (both_false _ _ u).1
-  kept (sends aReply x t ∷ l) h c u = kept l h c (both_false _ _ u).1
+  kept (sends a_token x t ∷ l) h c u = kept l h c (both_false _ _ u).1
+  kept (sends a_reply x t ∷ l) h c u = kept l h c (both_false _ _ u).1
   kept (confirmed q m status k ∷ l) h c u =
       let i = kept-closed a q m status h _ refl c in
       kept l _ i.clear u ∙ i.mark
@@ -173,7 +173,7 @@ bits-unknown = refl
 
 -- ---- after the start, and after a reset, the first to an address goes with FCB 1, FCV 0
 from-unheard : (l after : List Event) (p : Priority) (n : ℕ) (o : List ℕ) (wait : ℕ)
-    → Counts unheard (l ++ (sends (aRequest p n) o wait ∷ after)) → unaimed (destination_in o) l ≡ true
+    → Counts unheard (l ++ (sends (a_request p n) o wait ∷ after)) → unaimed (destination_in o) l ≡ true
     → counts (control_in o) ≡ true → bits_in o ≡ record { fcb = true; fcv = false }
 from-unheard l after p n o wait c u k =
     bits-right _ p n o (sends-rightly p n o wait _ (counts-split l after _ unheard c)) k
@@ -191,13 +191,13 @@ turn-same p n o u x e first = absurd (true≢false (ap is_none e))
 turn-same p n o u x e again = ap octets-of e
 
 sent-then : (h : History) (p : Priority) (n : ℕ) (o : List ℕ) (wait : ℕ) (l : List Event)
-    → Counts h (sends (aRequest p n) o wait ∷ l)
+    → Counts h (sends (a_request p n) o wait ∷ l)
     → Rightly h p n o × Counts (record { marks = h.marks; pending = sent p n o }) l
 unfolding Counts of_sendings Sent heeds goes
 sent-then h p n o wait l c = c
 
 repeated : (before between after : List Event) (p : Priority) (n : ℕ) (o u : List ℕ) (wait wait' : ℕ)
-    → Counts unheard (before ++ (sends (aRequest p n) o wait ∷ (between ++ (sends (aRequest p n) u wait' ∷ after))))
+    → Counts unheard (before ++ (sends (a_request p n) o wait ∷ (between ++ (sends (a_request p n) u wait' ∷ after))))
     → unclosed p n between ≡ true → u ≡ o
 repeated before between after p n o u wait wait' c h =
     let i = (sent-then _ p n o wait _ (suffix before _ unheard c)).1 in
@@ -258,12 +258,12 @@ module _ {e : List Event} (x : Succession e) where
 
 module _ (w : World) (b : Begun w) (l : List Call) where
   pub first-bits : (before after : List Event) (p : Priority) (n : ℕ) (o : List ℕ) (wait : ℕ)
-      → (run l w).events ≡ before ++ (sends (aRequest p n) o wait ∷ after) → unaimed (destination_in o) before ≡ true
+      → (run l w).events ≡ before ++ (sends (a_request p n) o wait ∷ after) → unaimed (destination_in o) before ≡ true
       → counts (control_in o) ≡ true → bits_in o ≡ record { fcb = true; fcv = false }
   first-bits before after p n o wait e u k = from-unheard before after p n o wait (rw e at (counts-begun w b l)) u k
 
   pub reset-bits : (before since after : List Event) (p : Priority) (n : ℕ) (o : List ℕ) (wait : ℕ)
-      → (run l w).events ≡ before ++ (resets ∷ (since ++ (sends (aRequest p n) o wait ∷ after)))
+      → (run l w).events ≡ before ++ (resets ∷ (since ++ (sends (a_request p n) o wait ∷ after)))
       → unaimed (destination_in o) since ≡ true → counts (control_in o) ≡ true
       → bits_in o ≡ record { fcb = true; fcv = false }
   reset-bits before since after p n o wait e u k =
@@ -272,7 +272,7 @@ module _ (w : World) (b : Begun w) (l : List Call) where
   -- "the same octets again": a request that is sent and not confirmed goes the next time with the same octets
   pub same-octets : (before between after : List Event) (p : Priority) (n : ℕ) (o u : List ℕ) (wait wait' : ℕ)
       → (run l w).events
-      ≡ before ++ (sends (aRequest p n) o wait ∷ (between ++ (sends (aRequest p n) u wait' ∷ after)))
+      ≡ before ++ (sends (a_request p n) o wait ∷ (between ++ (sends (a_request p n) u wait' ∷ after)))
       → unclosed p n between ≡ true → u ≡ o
   same-octets before between after p n o u wait wait' e h =
       repeated before between after p n o u wait wait' (rw e at (counts-begun w b l)) h

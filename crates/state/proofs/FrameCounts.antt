@@ -23,7 +23,7 @@ use Rattle.state.specs.declared.Priority.TheVariants.{High, Low}
 use Rattle.state.specs.declared.Doing.{Doing}
 use Rattle.state.specs.declared.Choice.TheVariants.{Serve}
 use Rattle.state.specs.declared.Outcome.{Outcome as Ending}
-use Rattle.state.specs.World.{Rows, Site, World, Event, aRequest, sends, confirmed, refused, done, with_doing}
+use Rattle.state.specs.World.{Rows, Site, World, Event, a_request, sends, confirmed, refused, done, with_doing}
 use Rattle.state.specs.World.{with_stranger, with_ps, with_queue, queue_of, with_core, with_masters, with_marks}
 use Rattle.state.specs.World.{rows_of, with_rows}
 use Rattle.state.specs.Request.{UNKNOWN, record_in, record_of, send_core, once, status_of, close_of}
@@ -281,7 +281,7 @@ fits-begun w b =
     let m = begun-marks w b in
     rw m.0 (fits_fresh (ap flight m.1))
 
-pub sends-rightly : (p : Priority) (n : ℕ) (o : List ℕ) (t : ℕ) (z : History) → Meets (sends (aRequest p n) o t) z
+pub sends-rightly : (p : Priority) (n : ℕ) (o : List ℕ) (t : ℕ) (z : History) → Meets (sends (a_request p n) o t) z
     → Rightly z p n o
 unfolding of_sendings Sent
 sends-rightly p n o t z h = h
@@ -297,6 +297,6 @@ counts-begun w b l =
 -- history of the events before it gives, and is either the first or "the same octets again"
 pub frame-counts : (w : World) → Begun w
     → (l : List Call) (before after : List Event) (p : Priority) (n : ℕ) (o : List ℕ) (wait : ℕ)
-    → (run l w).events ≡ before ++ (sends (aRequest p n) o wait ∷ after) → Rightly (history before unheard) p n o
+    → (run l w).events ≡ before ++ (sends (a_request p n) o wait ∷ after) → Rightly (history before unheard) p n o
 frame-counts w b l before after p n o wait e =
     sends-rightly p n o wait _ (counts-split before after _ unheard (rw e at (counts-begun w b l)))

@@ -8,7 +8,7 @@ use Rattle.rows.specs.Rows.{confirm}
 use Rattle.state.specs.declared.Priority.{Priority}
 use Rattle.state.specs.declared.Priority.TheVariants.{High, Low}
 use Rattle.state.specs.declared.Doing.{Doing}
-use Rattle.state.specs.World.{Site, World, What, aRequest, aToken, aReply, Event, accepted, begins, ends, sends}
+use Rattle.state.specs.World.{Site, World, What, a_request, a_token, a_reply, Event, accepted, begins, ends, sends}
 use Rattle.state.specs.World.{confirmed, collected, indicated, resets, refused, done, with_doing, with_hold}
 use Rattle.state.specs.World.{with_stranger, with_ps, with_queue, queue_of, with_core, with_masters, with_marks}
 use Rattle.state.specs.World.{rows_of, with_rows}
@@ -32,9 +32,9 @@ use Rattle.state.proofs.Start.{begun-marks}
 
 -- ---- what is asked of each event
 unfoldable Goes : What → Bool → Type 0
-Goes (aRequest p n) b = b ≡ true
-Goes aToken b = b ≡ false
-Goes aReply b = Any
+Goes (a_request p n) b = b ≡ true
+Goes a_token b = b ≡ false
+Goes a_reply b = Any
 
 unfoldable Meets : Event → Bool → Type 0
 Meets (accepted p n) b = Any
@@ -141,14 +141,14 @@ module _ (w : World) (b : Begun w) (l : List Call) where
 
     -- a request is sent while a hold is on, the token when it is over
     pub request-on : (p : Priority) (n : ℕ) (o : List ℕ) (t : ℕ)
-        → (run l w).events ≡ before ++ (sends (aRequest p n) o t ∷ after) → hold_last before false ≡ true
+        → (run l w).events ≡ before ++ (sends (a_request p n) o t ∷ after) → hold_last before false ≡ true
     unfolding Meets Goes
-    request-on p n o t i = asked (sends (aRequest p n) o t) i
+    request-on p n o t i = asked (sends (a_request p n) o t) i
 
-    pub token-off : (o : List ℕ) (t : ℕ) → (run l w).events ≡ before ++ (sends aToken o t ∷ after)
+    pub token-off : (o : List ℕ) (t : ℕ) → (run l w).events ≡ before ++ (sends a_token o t ∷ after)
         → hold_last before false ≡ false
     unfolding Meets Goes
-    token-off o t i = asked (sends aToken o t) i
+    token-off o t i = asked (sends a_token o t) i
 
   -- a hold is on exactly in the phases that document 01 gives it
   pub hold-phase : holding (run l w).world.site.core.doing.phase ≡ hold_last (run l w).events false

@@ -23,7 +23,7 @@ use Rattle.rows.specs.Rows.{at}
 use Rattle.rows.proofs.Laws.{by_order}
 use Rattle.state.specs.declared.Priority.{Priority}
 use Rattle.state.specs.declared.Priority.TheVariants.{High, Low}
-use Rattle.state.specs.World.{Rows, World, Event, Called, aRequest, accepted, begins, ends, sends}
+use Rattle.state.specs.World.{Rows, World, Event, Called, a_request, accepted, begins, ends, sends}
 use Rattle.state.specs.World.{confirmed, collected, indicated, resets, refused, done, with_queue, queue_of}
 use Rattle.state.specs.World.{with_core, rows_of, with_rows, with_site}
 use Rattle.state.specs.Request.{octets_in}
@@ -325,13 +325,13 @@ module _ (w : World) (b : Begun w) (before : List Call) (c : Call) (p : Priority
   -- where it tells that the request at place n of the queue p is sent, the octets carry what was last submitted and
   -- accepted there
   pub sent-as-entered : (o : List ℕ) (t : ℕ)
-      → (call c (run before w).world).events ≡ earlier ++ (sends (aRequest p n) o t ∷ later)
+      → (call c (run before w).world).events ≡ earlier ++ (sends (a_request p n) o t ∷ later)
       → CarriesEntry b.ts limit p (ledger p n before w blank) o
-  sent-as-entered o t i = asked-sent p n _ _ o t (asked (sends (aRequest p n) o t) i)
+  sent-as-entered o t i = asked-sent p n _ _ o t (asked (sends (a_request p n) o t) i)
 
   -- and a reader takes them for the frame that was meant
   pub read-as-entered : (o : List ℕ) (t : ℕ)
-      → (call c (run before w).world).events ≡ earlier ++ (sends (aRequest p n) o t ∷ later)
+      → (call c (run before w).world).events ≡ earlier ++ (sends (a_request p n) o t ∷ later)
       → ReadsEntry b.ts p (ledger p n before w blank) o
   read-as-entered o t i = reads-entry b.ts limit p _ o (begun-orderly w b).small (sent-as-entered o t i)
 

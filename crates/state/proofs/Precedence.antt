@@ -10,7 +10,7 @@ use Rattle.rows.specs.Rows.{confirm}
 use Rattle.state.specs.declared.Priority.{Priority}
 use Rattle.state.specs.declared.Priority.TheVariants.{High, Low}
 use Rattle.state.specs.declared.Doing.{Doing}
-use Rattle.state.specs.World.{Site, World, What, aRequest, aToken, aReply, Event, sends}
+use Rattle.state.specs.World.{Site, World, What, a_request, a_token, a_reply, Event, sends}
 use Rattle.state.specs.World.{refused, done, with_doing, with_hold}
 use Rattle.state.specs.World.{with_stranger, with_ps, with_queue, queue_of, with_core, with_masters, with_marks}
 use Rattle.state.specs.World.{rows_of, with_rows}
@@ -34,10 +34,10 @@ use Rattle.state.proofs.Start.{begun-queues, begun-marks}
 
 -- ---- what is asked of each sending: of a low request's, that no high one waits, unless it was sent before
 unfoldable Goes : What → List ℕ → ℕ → Line → Type 0
-Goes (aRequest High n) o k h = Any
-Goes (aRequest Low n) o k h = h.low ≡ false → h.waiting ≡ 0
-Goes aToken o k h = Any
-Goes aReply o k h = Any
+Goes (a_request High n) o k h = Any
+Goes (a_request Low n) o k h = h.low ≡ false → h.waiting ≡ 0
+Goes a_token o k h = Any
+Goes a_reply o k h = Any
 
 abbrev Meets : Event → Line → Type 0
 Meets e h = of_sendings Goes e h
@@ -159,7 +159,7 @@ pub waiting-is : (w : World) → Begun w → (l : List Call)
     → (run l w).world.site.core.high.unconfirmed ≡ (line_last (run l w).events nobody).waiting
 waiting-is w b l = (kept_run precedence l w nobody any (placed-begun w b)).at.count
 
-low_goes : (n : ℕ) (o : List ℕ) (k : ℕ) (h : Line) → Meets (sends (aRequest Low n) o k) h → h.low ≡ false
+low_goes : (n : ℕ) (o : List ℕ) (k : ℕ) (h : Line) → Meets (sends (a_request Low n) o k) h → h.low ≡ false
     → h.waiting ≡ 0
 unfolding of_sendings Goes
 low_goes n o k h i = i
@@ -168,7 +168,7 @@ low_goes n o k h i = i
 -- confirmed, every high request that was accepted is confirmed
 pub high-before-low : (w : World) → Begun w
     → (l : List Call) (before after : List Event) (n : ℕ) (o : List ℕ) (wait : ℕ)
-    → (run l w).events ≡ before ++ (sends (aRequest Low n) o wait ∷ after) → (line_last before nobody).low ≡ false
+    → (run l w).events ≡ before ++ (sends (a_request Low n) o wait ∷ after) → (line_last before nobody).low ≡ false
     → (line_last before nobody).waiting ≡ 0
 high-before-low w b l before after n o wait e =
     low_goes n o wait _ (met precedence l w nobody any (placed-begun w b) before after _ e)

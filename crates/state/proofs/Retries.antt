@@ -15,7 +15,7 @@ use Rattle.queue.specs.Queue.{current, take}
 use Rattle.rows.specs.Rows.{at, confirm}
 use Rattle.state.specs.declared.Priority.{Priority}
 use Rattle.state.specs.declared.Priority.TheVariants.{High, Low}
-use Rattle.state.specs.World.{Site, World, What, aRequest, aToken, aReply, Event, accepted, begins, ends, sends}
+use Rattle.state.specs.World.{Site, World, What, a_request, a_token, a_reply, Event, accepted, begins, ends, sends}
 use Rattle.state.specs.World.{confirmed, collected, indicated, resets, refused, done, with_doing}
 use Rattle.state.specs.World.{with_hold, with_stranger, with_ps, with_queue, queue_of, with_core, with_masters}
 use Rattle.state.specs.World.{with_marks, rows_of, with_rows}
@@ -213,9 +213,9 @@ module _ (p : Priority) (n : ℕ) where
 
 -- ---- what is asked of each sending of the request: that it was sent before at most as often as its limit says
 unfoldable Goes : Priority → ℕ → ℕ → What → List ℕ → ℕ → ℕ → Type 0
-Goes p n limit (aRequest q m) o t k = both (alike p q) (same n m) ≡ true → k ≤ limit
-Goes p n limit aToken o t k = Any
-Goes p n limit aReply o t k = Any
+Goes p n limit (a_request q m) o t k = both (alike p q) (same n m) ≡ true → k ≤ limit
+Goes p n limit a_token o t k = Any
+Goes p n limit a_reply o t k = Any
 
 -- the record of the request that is sent is the one at its place
 limit-at : (p y : Priority) (n : ℕ) (s : Site) → ours p n y s ≡ true
@@ -269,9 +269,9 @@ none-by false j k h = h
 module _ (p : Priority) (n : ℕ) where
   more-sent : (x : What) (j k : ℕ) → j ≤ k → sendings_by p n x j ≤ sendings_by p n x k
   unfolding sendings_by
-  more-sent (aRequest q m) j k h = more_by _ j k h
-  more-sent aToken j k h = h
-  more-sent aReply j k h = h
+  more-sent (a_request q m) j k h = more_by _ j k h
+  more-sent a_token j k h = h
+  more-sent a_reply j k h = h
 
   more-after : (e : Event) (j k : ℕ) → j ≤ k → sendings_after p n e j ≤ sendings_after p n e k
   unfolding sendings_after
@@ -295,7 +295,7 @@ module _ (p : Priority) (n : ℕ) where
 module _ (w : World) (b : Begun w) (before : List Call) (p : Priority) (r : Record) (x : List ℕ) (n : ℕ)
     (e : (call (submit p r x) (run before w).world).events ≡ accepted p n ∷ []) (after : List Call)
     (earlier later : List Event) (o : List ℕ) (t : ℕ)
-    (i : (run after (then w b before p r x n e after)).events ≡ earlier ++ (sends (aRequest p n) o t ∷ later))
+    (i : (run after (then w b before p r x n e after)).events ≡ earlier ++ (sends (a_request p n) o t ∷ later))
     (j : never (collects p n) earlier ≡ true) where
   abbrev now : World
   now = then w b before p r x n e after
@@ -333,7 +333,7 @@ module _ (w : World) (b : Begun w) (before : List Call) (p : Priority) (r : Reco
             λ c k g s f. goes-acted b.settings b.ts p n _ c k g s (held_of p n b.ts limit r x f).limits;
       })
       after now (orderly-then w b before p r x n e after) earliest stands-now (pending a.0) earlier later
-      (sends (aRequest p n) o t) i j in
+      (sends (a_request p n) o t) i j in
       let h = m (itself p n) in
       let z = more-last p n earlier 0 earliest (omega arith) in
       omega (arith, h, z)

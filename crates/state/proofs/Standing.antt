@@ -15,7 +15,7 @@ use Rattle.state.specs.declared.Priority.TheVariants.{High, Low}
 use Rattle.state.specs.declared.Doing.{Doing}
 use Rattle.state.specs.declared.Core.{Core}
 use Rattle.state.specs.declared.Outcome.{Outcome}
-use Rattle.state.specs.World.{Site, Event, aRequest, sends, confirmed, begins, ends, done, with_doing, with_queue}
+use Rattle.state.specs.World.{Site, Event, a_request, sends, confirmed, begins, ends, done, with_doing, with_queue}
 use Rattle.state.specs.World.{queue_of, with_core, with_marks, rows_of, with_rows}
 use Rattle.state.specs.Request.{record_in, record_of, sending, send_core, once, status_of, close_of}
 use Rattle.state.specs.Pass.{passing as passing_on}
@@ -154,18 +154,18 @@ module _ (p k limit : ℕ) where
   -- ---- a sending
   ours-sent : {g' : Doing} {q' : Queue} {row' : List ℕ} (n : ℕ) (o : List ℕ) (t : ℕ) (f : Fate)
       → n ≡ p → f.collected ≡ false → Standing p k limit g' q' row' (sent_once f)
-      → Standing p k limit g' q' row' (fate p (sends (aRequest High n) o t ∷ []) f)
-  ours-sent n o t f e c h = rw (fate-one p (sends (aRequest High n) o t) f c, meets-sent p n o t f e) h
+      → Standing p k limit g' q' row' (fate p (sends (a_request High n) o t ∷ []) f)
+  ours-sent n o t f e c h = rw (fate-one p (sends (a_request High n) o t) f c, meets-sent p n o t f e) h
 
   other-sent : {g' : Doing} {q' : Queue} {row' : List ℕ} (n : ℕ) (o : List ℕ) (t : ℕ) (f : Fate)
       → (n ≡ p → ⊥) → Standing p k limit g' q' row' f
-      → Standing p k limit g' q' row' (fate p (sends (aRequest High n) o t ∷ []) f)
-  other-sent n o t f e h = rw (stays p (sends (aRequest High n) o t) f (meets-other p n o t f e)) h
+      → Standing p k limit g' q' row' (fate p (sends (a_request High n) o t ∷ []) f)
+  other-sent n o t f e h = rw (stays p (sends (a_request High n) o t) f (meets-other p n o t f e)) h
 
   lower-sent : {g' : Doing} {q' : Queue} {row' : List ℕ} (n : ℕ) (o : List ℕ) (t : ℕ) (f : Fate)
       → Standing p k limit g' q' row' f
-      → Standing p k limit g' q' row' (fate p (sends (aRequest Low n) o t ∷ []) f)
-  lower-sent n o t f h = rw (stays p (sends (aRequest Low n) o t) f (meets-low p n o t f)) h
+      → Standing p k limit g' q' row' (fate p (sends (a_request Low n) o t ∷ []) f)
+  lower-sent n o t f h = rw (stays p (sends (a_request Low n) o t) f (meets-low p n o t f)) h
 
   -- ---- send
   our-first : (n : ℕ) (f : Fate) → Opening k 0 f → Stage k limit 0 (sending High n) (sent_once f)

@@ -18,7 +18,7 @@ use Rattle.queue.specs.Queue.{AREA, current, closed}
 use Rattle.rows.specs.Rows.{at}
 use Rattle.state.specs.declared.Priority.{Priority}
 use Rattle.state.specs.declared.Priority.TheVariants.{High, Low}
-use Rattle.state.specs.World.{Rows, What, aRequest, aToken, aReply, Event, accepted, begins, ends, sends}
+use Rattle.state.specs.World.{Rows, What, a_request, a_token, a_reply, Event, accepted, begins, ends, sends}
 use Rattle.state.specs.World.{confirmed, collected, indicated, resets, refused}
 use Rattle.state.specs.Request.{head_for, record_in, data_in, octets_in, mark_of}
 use Rattle.state.specs.Counts.{alike}
@@ -38,9 +38,9 @@ alike-itself Low = refl
 -- ---- what is asked of the events of the request at place n of the queue y: of the octets that are sent, and of the
 -- record that is collected
 unfoldable pub AsksWhat : Priority → ℕ → (List ℕ → Type 0) → What → List ℕ → Type 0
-AsksWhat y n F (aRequest z m) o = both (alike y z) (same n m) ≡ true → F o
-AsksWhat y n F aToken o = Any
-AsksWhat y n F aReply o = Any
+AsksWhat y n F (a_request z m) o = both (alike y z) (same n m) ≡ true → F o
+AsksWhat y n F a_token o = Any
+AsksWhat y n F a_reply o = Any
 
 unfoldable pub Asks : Priority → ℕ → (List ℕ → Type 0) → (Record → Type 0) → Event → Type 0
 Asks y n F G (accepted z m) = Any
@@ -67,7 +67,7 @@ module _ (y : Priority) (n : ℕ) where
   itself = pick_true _ _ (alike-itself y) ∙ same_true refl
 
   module _ (F : List ℕ → Type 0) (G : Record → Type 0) where
-    pub asked-sent : (o : List ℕ) (t : ℕ) → Asks y n F G (sends (aRequest y n) o t) → F o
+    pub asked-sent : (o : List ℕ) (t : ℕ) → Asks y n F G (sends (a_request y n) o t) → F o
     unfolding Asks AsksWhat
     asked-sent o t h = h itself
 
@@ -77,9 +77,9 @@ module _ (y : Priority) (n : ℕ) where
 
     asks-other : (x : What) (o : List ℕ) → about_what y x ≡ false → AsksWhat y n F x o
     unfolding about_what AsksWhat
-    asks-other (aRequest z m) o e = λ i. unlike z m e i
-    asks-other aToken o e = any
-    asks-other aReply o e = any
+    asks-other (a_request z m) o e = λ i. unlike z m e i
+    asks-other a_token o e = any
+    asks-other a_reply o e = any
 
     asks-spared : (e : Event) → about y e ≡ false → Asks y n F G e
     unfolding about Asks

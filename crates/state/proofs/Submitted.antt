@@ -11,7 +11,7 @@ use Rattle.request.specs.Record.{unfit, limited}
 use Rattle.queue.specs.Queue as Q
 use Rattle.rows.specs.Rows.{at}
 use Rattle.state.specs.declared.Priority.{Priority}
-use Rattle.state.specs.World.{World, Event, aRequest, accepted, sends, collected, rows_of}
+use Rattle.state.specs.World.{World, Event, a_request, accepted, sends, collected, rows_of}
 use Rattle.state.specs.Runs.{Call, call, run, Begun}
 use Rattle.state.specs.Runs.Call.{submit}
 use Rattle.state.specs.Submitted.{Carries, Reads, Of, Lies, confirms, collects, never}
@@ -60,14 +60,14 @@ module _ (w : World) (b : Begun w) (before : List Call) (p : Priority) (r : Reco
 
   -- until its record is collected, each sending of the request at that place carries what was submitted
   pub sent-as-submitted : (earlier later : List Event) (o : List ℕ) (t : ℕ)
-      → (run after then).events ≡ earlier ++ (sends (aRequest p n) o t ∷ later) → never (collects p n) earlier ≡ true
+      → (run after then).events ≡ earlier ++ (sends (a_request p n) o t ∷ later) → never (collects p n) earlier ≡ true
       → Carries b.ts limit p r x o
   sent-as-submitted earlier later o t i j =
-      asked-sent p n _ _ o t (asked earlier later (sends (aRequest p n) o t) i j)
+      asked-sent p n _ _ o t (asked earlier later (sends (a_request p n) o t) i j)
 
   -- and a reader takes the octets for the frame that was meant
   pub read-as-submitted : (earlier later : List Event) (o : List ℕ) (t : ℕ)
-      → (run after then).events ≡ earlier ++ (sends (aRequest p n) o t ∷ later) → never (collects p n) earlier ≡ true
+      → (run after then).events ≡ earlier ++ (sends (a_request p n) o t ∷ later) → never (collects p n) earlier ≡ true
       → Reads b.ts p r x o
   read-as-submitted earlier later o t i j =
       reads b.ts limit p r x o orderly.small (sent-as-submitted earlier later o t i j)

@@ -22,7 +22,7 @@ use Rattle.state.specs.declared.Priority.TheVariants.{High, Low}
 use Rattle.state.specs.declared.Doing.{Doing}
 use Rattle.state.specs.declared.Outcome.{Outcome}
 use Rattle.state.specs.declared.Outcome.TheVariants.{Replied, Lost, Gone}
-use Rattle.state.specs.World.{Rows, Site, What, aRequest, aToken, aReply, Event}
+use Rattle.state.specs.World.{Rows, Site, What, a_request, a_token, a_reply, Event}
 use Rattle.state.specs.Request.{UNKNOWN, head_for, record_in, data_in, octets_in, service_of, status_of, marks_after}
 use Rattle.state.specs.Counts.{Mark, answered, settled, destination_in, control_in, counts, Pending, none, sent}
 use Rattle.state.specs.Counts.{History, marks_by, alike, closes, heeds, history, Turn, Rightly}
@@ -36,9 +36,9 @@ use Rattle.state.proofs.Agreed.{destination-octets, control-octets, near, nearer
 
 -- ---- what is asked of each sending: of a request's, that it goes rightly
 unfoldable pub Sent : What → List ℕ → ℕ → History → Type 0
-Sent (aRequest p n) o t h = Rightly h p n o
-Sent aToken o t h = Any
-Sent aReply o t h = Any
+Sent (a_request p n) o t h = Rightly h p n o
+Sent a_token o t h = Any
+Sent a_reply o t h = Any
 
 abbrev pub Meets : Event → History → Type 0
 Meets e h = of_sendings Sent e h

@@ -19,7 +19,7 @@ use Rattle.state.specs.declared.Priority.{Priority}
 use Rattle.state.specs.declared.Priority.TheVariants.{High, Low}
 use Rattle.state.specs.declared.Doing.{Doing}
 use Rattle.state.specs.declared.Core.{Core}
-use Rattle.state.specs.World.{Rows, Site, World, What, aRequest, aToken, aReply, Event}
+use Rattle.state.specs.World.{Rows, Site, World, What, a_request, a_token, a_reply, Event}
 use Rattle.state.specs.World.{sends, refused, done, with_doing}
 use Rattle.state.specs.World.{with_hold, with_stranger, with_ps, with_queue, queue_of, with_core, with_masters}
 use Rattle.state.specs.World.{with_marks, rows_of, with_rows}
@@ -47,9 +47,9 @@ use Rattle.state.proofs.FrameCounts.{awaited-service}
 
 -- ---- what is asked of each sending: its wait
 unfoldable Goes : Settings → What → List ℕ → ℕ → Bool → Type 0
-Goes t (aRequest p n) o k b = k ≡ wait_due t b
-Goes t aToken o k b = k ≡ wait_due t b
-Goes t aReply o k b = k ≡ wait_of t Reply
+Goes t (a_request p n) o k b = k ≡ wait_due t b
+Goes t a_token o k b = k ≡ wait_due t b
+Goes t a_reply o k b = k ≡ wait_of t Reply
 
 abbrev Meets : Settings → Event → Bool → Type 0
 Meets t e b = of_sendings (Goes t) e b
@@ -208,15 +208,15 @@ paced-begun w b =
     unmindful (ap flight m.1) (ap checking m.1) (ap awaiting m.1)
 
 request-waits : (t : Settings) (p : Priority) (n : ℕ) (o : List ℕ) (k : ℕ) (b : Bool)
-    → Meets t (sends (aRequest p n) o k) b → k ≡ wait_due t b
+    → Meets t (sends (a_request p n) o k) b → k ≡ wait_due t b
 unfolding of_sendings Goes
 request-waits t p n o k b h = h
 
-token-waits : (t : Settings) (o : List ℕ) (k : ℕ) (b : Bool) → Meets t (sends aToken o k) b → k ≡ wait_due t b
+token-waits : (t : Settings) (o : List ℕ) (k : ℕ) (b : Bool) → Meets t (sends a_token o k) b → k ≡ wait_due t b
 unfolding of_sendings Goes
 token-waits t o k b h = h
 
-reply-waits : (t : Settings) (o : List ℕ) (k : ℕ) (b : Bool) → Meets t (sends aReply o k) b → k ≡ wait_of t Reply
+reply-waits : (t : Settings) (o : List ℕ) (k : ℕ) (b : Bool) → Meets t (sends a_reply o k) b → k ≡ wait_of t Reply
 unfolding of_sendings Goes
 reply-waits t o k b h = h
 
@@ -234,25 +234,25 @@ module _ (w : World) (b : Begun w) (l : List Call) (before after : List Event) w
       before after e i
 
   pub waits-before-request : (p : Priority) (n : ℕ) (o : List ℕ) (wait : ℕ)
-      → (run l w).events ≡ before ++ (sends (aRequest p n) o wait ∷ after)
+      → (run l w).events ≡ before ++ (sends (a_request p n) o wait ∷ after)
       → wait ≡ wait_due b.settings (sdn_last before false)
   waits-before-request p n o wait e = request-waits _ p n o wait _ (paces-before _ e)
 
-  pub waits-before-token : (o : List ℕ) (wait : ℕ) → (run l w).events ≡ before ++ (sends aToken o wait ∷ after)
+  pub waits-before-token : (o : List ℕ) (wait : ℕ) → (run l w).events ≡ before ++ (sends a_token o wait ∷ after)
       → wait ≡ wait_due b.settings (sdn_last before false)
   waits-before-token o wait e = token-waits _ o wait _ (paces-before _ e)
 
-  pub waits-before-reply : (o : List ℕ) (wait : ℕ) → (run l w).events ≡ before ++ (sends aReply o wait ∷ after)
+  pub waits-before-reply : (o : List ℕ) (wait : ℕ) → (run l w).events ≡ before ++ (sends a_reply o wait ∷ after)
       → wait ≡ wait_of b.settings Reply
   waits-before-reply o wait e = reply-waits _ o wait _ (paces-before _ e)
 
   -- document 02, order 1: what follows no SDN of its hold heeds the line, the responder and the initiator: a request and
   -- a token come no sooner than 33 + TSM, min TSDR and TSDI
   pub request-heeds : (p : Priority) (n : ℕ) (o : List ℕ) (wait : ℕ)
-      → (run l w).events ≡ before ++ (sends (aRequest p n) o wait ∷ after) → sdn_last before false ≡ false
+      → (run l w).events ≡ before ++ (sends (a_request p n) o wait ∷ after) → sdn_last before false ≡ false
       → Heeds b.settings wait
   request-heeds p n o wait e f = heeds-other b.settings _ wait f (waits-before-request p n o wait e)
 
-  pub token-heeds : (o : List ℕ) (wait : ℕ) → (run l w).events ≡ before ++ (sends aToken o wait ∷ after)
+  pub token-heeds : (o : List ℕ) (wait : ℕ) → (run l w).events ≡ before ++ (sends a_token o wait ∷ after)
       → sdn_last before false ≡ false → Heeds b.settings wait
   token-heeds o wait e f = heeds-other b.settings _ wait f (waits-before-token o wait e)

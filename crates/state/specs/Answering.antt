@@ -25,7 +25,7 @@ use Rattle.state.specs.declared.Given.{Given}
 use Rattle.state.specs.declared.Given.TheVariants.{Acknowledged, Coded}
 use Rattle.state.specs.declared.New.{New}
 use Rattle.state.specs.declared.Responder.{Responder}
-use Rattle.state.specs.World.{Event, aReply, sends, indicated}
+use Rattle.state.specs.World.{Event, a_reply, sends, indicated}
 
 -- "the active access points (0..62 and "none")": 63 is never one
 unfoldable pub active : List ℕ → Access → Bool
@@ -121,7 +121,7 @@ shows i h p = pick i (indicated h p ∷ []) []
 
 -- a reply goes out after the responder's wait
 unfoldable pub replies : Responder → List ℕ → Event
-replies r o = sends aReply o r.wait.0
+replies r o = sends a_reply o r.wait.0
 
 -- "FDL status: OK", with the responder's type
 unfoldable pub status_events : Responder → Head → List Event

@@ -12,7 +12,7 @@ use Rattle.frame.specs.Reading.{octet}
 use Rattle.request.specs.Record.{NA}
 use Rattle.state.specs.declared.Priority.{Priority}
 use Rattle.state.specs.declared.Priority.TheVariants.{High, Low}
-use Rattle.state.specs.World.{What, aRequest, aToken, aReply, Event, accepted, begins, ends, sends, confirmed}
+use Rattle.state.specs.World.{What, a_request, a_token, a_reply, Event, accepted, begins, ends, sends, confirmed}
 use Rattle.state.specs.World.{collected, indicated, resets, refused}
 
 -- "a frame count mark for each of the 127 addresses: unknown, or the next bit"
@@ -91,9 +91,9 @@ closes p n status (sent q m o) h =
     pick (alike p q) (pick (same n m) (record { marks = marks_by status o h.marks; pending = none }) h) h
 
 unfoldable pub goes : What → List ℕ → History → History
-goes (aRequest p n) o h = record { marks = h.marks; pending = sent p n o }
-goes aToken o h = h
-goes aReply o h = h
+goes (a_request p n) o h = record { marks = h.marks; pending = sent p n o }
+goes a_token o h = h
+goes a_reply o h = h
 
 -- what an event makes of it, and events in a row
 unfoldable pub heeds : Event → History → History
@@ -152,9 +152,9 @@ unclosed p n (refused m ∷ l) = unclosed p n l
 
 -- none of the events sends an SDA or SRD to the address a, and none is a reset
 unfoldable pub aims : ℕ → What → List ℕ → Bool
-aims a (aRequest p n) o = pick (counts (control_in o)) (same a (destination_in o)) false
-aims a aToken o = false
-aims a aReply o = false
+aims a (a_request p n) o = pick (counts (control_in o)) (same a (destination_in o)) false
+aims a a_token o = false
+aims a a_reply o = false
 
 unfoldable pub unaimed : ℕ → List Event → Bool
 unaimed a [] = true
@@ -187,10 +187,10 @@ pub record Succession (e : List Event) : Type 0 where
   pub after : List Event
   pub told : e
       ≡ before ++
-      (sends (aRequest queue place) earlier earlier_wait ∷
+      (sends (a_request queue place) earlier earlier_wait ∷
       (until ++
       (confirmed queue place status count ∷
-      (since ++ (sends (aRequest next_queue next_place) later later_wait ∷ after)))))
+      (since ++ (sends (a_request next_queue next_place) later later_wait ∷ after)))))
   pub unanswered : unclosed queue place until ≡ true
   pub earlier_counts : counts (control_in earlier) ≡ true
   pub later_counts : counts (control_in later) ≡ true

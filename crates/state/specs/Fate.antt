@@ -4,7 +4,7 @@ use Rattle.std.specs.Prelude.{ℕ, ◌+◌, ◌<◌, ◌≤◌, Bool, true, fals
 use Rattle.choice.specs.Choice.{pick, same}
 use Rattle.state.specs.declared.Priority.{Priority}
 use Rattle.state.specs.declared.Priority.TheVariants.{High, Low}
-use Rattle.state.specs.World.{What, aRequest, aToken, aReply, Event, accepted, begins, ends, sends, confirmed}
+use Rattle.state.specs.World.{What, a_request, a_token, a_reply, Event, accepted, begins, ends, sends, confirmed}
 use Rattle.state.specs.World.{collected, indicated, resets, refused}
 
 -- how often it was sent and confirmed, the count of its confirmation, the holds that began after its acceptance and
@@ -117,9 +117,9 @@ of_high High n p g f = pick (same n p) g f
 of_high Low n p g f = f
 
 unfoldable pub sent_what : What → ℕ → Fate → Fate
-sent_what (aRequest q n) p f = of_high q n p (sent_once f) f
-sent_what aToken p f = f
-sent_what aReply p f = f
+sent_what (a_request q n) p f = of_high q n p (sent_once f) f
+sent_what a_token p f = f
+sent_what a_reply p f = f
 
 unfoldable pub meets : ℕ → Event → Fate → Fate
 meets p (accepted q n) f = f

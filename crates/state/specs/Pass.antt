@@ -8,7 +8,7 @@ use Rattle.times.specs.declared.Sending.TheVariants.{Other}
 use Rattle.state.specs.declared.Phase.TheVariants.{Check, ToSelf}
 use Rattle.state.specs.declared.Doing.{Doing}
 use Rattle.state.specs.declared.Core.{Core}
-use Rattle.state.specs.World.{Site, Event, Done, aToken, sends, done, with_doing, with_ps, with_core, with_masters}
+use Rattle.state.specs.World.{Site, Event, Done, a_token, sends, done, with_doing, with_ps, with_core, with_masters}
 use Rattle.state.specs.Request.{once, after_last, wait_for}
 
 -- "To NS, found one address after another, from TS upward, past 126 to 0"
@@ -29,7 +29,7 @@ unfoldable pub pass_core : ℕ → Core → Core
 pass_core n c = with_doing (passing n c) c
 
 unfoldable pub pass_events : ℕ → Core → List Event
-pass_events n c = sends aToken (token_to n c) (wait_for c (after_last c)) ∷ []
+pass_events n c = sends a_token (token_to n c) (wait_for c (after_last c)) ∷ []
 
 unfoldable pub pass : Site → Done
 pass s = done (with_core (pass_core (ns s) s.core) s) (pass_events (ns s) s.core)
@@ -38,7 +38,7 @@ pass s = done (with_core (pass_core (ns s) s.core) s) (pass_events (ns s) s.core
 unfoldable pub pass_again : Site → Done
 pass_again s =
     done (with_core (with_doing (once s.core.doing) s.core) s)
-    (sends aToken (token_to (ns s) s.core) (wait_for s.core Other) ∷ [])
+    (sends a_token (token_to (ns s) s.core) (wait_for s.core Other) ∷ [])
 
 -- "then NS leaves the ring and the next is tried; if it was PS too, PS is found anew"
 unfoldable pub ps_without : ℕ → List ℕ → Core → ℕ

@@ -3,7 +3,7 @@
 use Rattle.std.specs.Prelude.{ℕ, ◌+◌, ◌-◌, Bool, true, false, List, [], ◌∷◌}
 use Rattle.state.specs.declared.Priority.{Priority}
 use Rattle.state.specs.declared.Priority.TheVariants.{High, Low}
-use Rattle.state.specs.World.{What, aRequest, aToken, aReply, Event, accepted, begins, ends, sends, confirmed}
+use Rattle.state.specs.World.{What, a_request, a_token, a_reply, Event, accepted, begins, ends, sends, confirmed}
 use Rattle.state.specs.World.{collected, indicated, resets, refused}
 
 pub record Line : Type 0 where
@@ -20,10 +20,10 @@ joined High h = record { waiting = h.waiting + 1; low = h.low }
 joined Low h = h
 
 unfoldable pub sent_by : What → Line → Line
-sent_by (aRequest High n) h = h
-sent_by (aRequest Low n) h = record { waiting = h.waiting; low = true }
-sent_by aToken h = h
-sent_by aReply h = h
+sent_by (a_request High n) h = h
+sent_by (a_request Low n) h = record { waiting = h.waiting; low = true }
+sent_by a_token h = h
+sent_by a_reply h = h
 
 unfoldable pub served : Priority → Line → Line
 served High h = record { waiting = h.waiting - 1; low = h.low }

@@ -32,7 +32,7 @@ use Rattle.state.specs.declared.Verdict.TheVariants.{Plausible, Vain, Foreign}
 use Rattle.times.specs.declared.Sending.{Sending}
 use Rattle.times.specs.declared.Sending.TheVariants.{AfterSdn, Other}
 use Rattle.times.specs.Times.{wait_of}
-use Rattle.state.specs.World.{Site, Rows, Event, Done, aRequest, sends, confirmed, done, with_doing, with_queue}
+use Rattle.state.specs.World.{Site, Rows, Event, Done, a_request, sends, confirmed, done, with_doing, with_queue}
 use Rattle.state.specs.World.{queue_of, with_core, with_marks, rows_of, with_rows}
 
 -- ---- the mark of an address: "unknown, or the next bit"
@@ -110,7 +110,7 @@ send_core p c r = with_doing (sending p (record_in (queue_of p c) r).service) c
 
 unfoldable pub send_events : Priority → Core → List ℕ → Rows → List Event
 send_events p c marks r =
-    sends (aRequest p (current (queue_of p c))) (octets_in c.ts p (queue_of p c) marks r) (wait_for c (after_last c)) ∷ []
+    sends (a_request p (current (queue_of p c))) (octets_in c.ts p (queue_of p c) marks r) (wait_for c (after_last c)) ∷ []
 
 unfoldable pub send : Priority → Site → Done
 send p s = done (with_core (send_core p s.core (rows_of p s)) s) (send_events p s.core s.marks (rows_of p s))
@@ -121,7 +121,7 @@ once d = record { phase = d.phase; served = d.served; sendings = d.sendings + 1;
 
 unfoldable pub again_events : Priority → Core → List ℕ → Rows → List Event
 again_events p c marks r =
-    sends (aRequest p (current (queue_of p c))) (octets_in c.ts p (queue_of p c) marks r) (wait_for c Other) ∷ []
+    sends (a_request p (current (queue_of p c))) (octets_in c.ts p (queue_of p c) marks r) (wait_for c Other) ∷ []
 
 unfoldable pub again_of : Priority → Site → Done
 again_of p s =

@@ -6,7 +6,7 @@ use Rattle.choice.specs.Choice.{pick, same, both}
 use Rattle.request.specs.Record.{NA}
 use Rattle.state.specs.declared.Priority.{Priority}
 use Rattle.state.specs.declared.Priority.TheVariants.{High}
-use Rattle.state.specs.World.{What, aRequest, aToken, aReply, Event, accepted, begins, ends, sends, confirmed}
+use Rattle.state.specs.World.{What, a_request, a_token, a_reply, Event, accepted, begins, ends, sends, confirmed}
 use Rattle.state.specs.World.{collected, indicated, resets, refused}
 use Rattle.state.specs.Runs.{submit, slot, collect}
 use Rattle.state.specs.Counts.{alike}
@@ -15,9 +15,9 @@ use Rattle.state.specs.Twelve.{Step, hears, to_seven_with, to_seven, sends_6d, p
 -- ---- how often the request at place n of the queue p was sent, since the confirmation of the one before it there or the
 -- last reset: after a sending, after an event, and after events in a row
 unfoldable pub sendings_by : Priority → ℕ → What → ℕ → ℕ
-sendings_by p n (aRequest q m) k = pick (both (alike p q) (same n m)) (k + 1) k
-sendings_by p n aToken k = k
-sendings_by p n aReply k = k
+sendings_by p n (a_request q m) k = pick (both (alike p q) (same n m)) (k + 1) k
+sendings_by p n a_token k = k
+sendings_by p n a_reply k = k
 
 unfoldable pub sendings_after : Priority → ℕ → Event → ℕ → ℕ
 sendings_after p n (accepted q m) k = k

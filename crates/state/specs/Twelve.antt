@@ -28,7 +28,7 @@ use Rattle.queue.specs.Queue.{AREA}
 use Rattle.frame.specs.Access.{NONE}
 use Rattle.state.specs.declared.Priority.TheVariants.{High}
 use Rattle.state.specs.Calls.{Started, Unstarted, Station}
-use Rattle.state.specs.World.{Rows, World, Event, aRequest, aToken, aReply, accepted, begins, ends, sends}
+use Rattle.state.specs.World.{Rows, World, Event, a_request, a_token, a_reply, accepted, begins, ends, sends}
 use Rattle.state.specs.World.{confirmed, collected, indicated, world_of}
 use Rattle.state.specs.Calls.{start}
 use Rattle.state.specs.Runs.{Call, submit, frame, slot, collect, call, run}
@@ -233,10 +233,10 @@ to_seven limit status count = to_seven_with 0 limit true status count
 
 -- the first request to 7, with FC 6D, from a place of the high queue, and the token to 5; both after Tid1
 abbrev pub sends_6d : ℕ → Event
-sends_6d place = sends (aRequest High place) (0x10 ∷ (0x07 ∷ (0x02 ∷ (0x6D ∷ (0x76 ∷ (0x16 ∷ [])))))) 75
+sends_6d place = sends (a_request High place) (0x10 ∷ (0x07 ∷ (0x02 ∷ (0x6D ∷ (0x76 ∷ (0x16 ∷ [])))))) 75
 
 abbrev pub passes : Event
-passes = sends aToken (0xDC ∷ (0x05 ∷ (0x02 ∷ []))) 75
+passes = sends a_token (0xDC ∷ (0x05 ∷ (0x02 ∷ []))) 75
 
 abbrev pub token_from_5 : List ℕ
 token_from_5 = 0xDC ∷ (0x02 ∷ (0x05 ∷ []))
@@ -275,13 +275,13 @@ handed =
 -- ---- 2, 3 and 4 as heard by the station they go to, so that no fixed reply will do: 3 is 2's reply, and 4 is answered SC and
 -- indicated where its access point is active
 unfoldable pub replied : ℕ → List Step
-replied clock = record { call = hears clock string2; told = sends aReply string3 20 ∷ [] } ∷ []
+replied clock = record { call = hears clock string2; told = sends a_reply string3 20 ∷ [] } ∷ []
 
 unfoldable pub acknowledged : ℕ → List Step
 acknowledged clock =
     record {
       call = hears clock string4;
-      told = sends aReply (0xE5 ∷ []) 20 ∷ (indicated head4 (record { start = 9; count = 0 }) ∷ []);
+      told = sends a_reply (0xE5 ∷ []) 20 ∷ (indicated head4 (record { start = 9; count = 0 }) ∷ []);
     }
     ∷ []
 

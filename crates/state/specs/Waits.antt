@@ -6,16 +6,16 @@ use Rattle.choice.specs.Choice.{pick}
 use Rattle.times.specs.declared.Settings.{Settings}
 use Rattle.times.specs.declared.Sending.TheVariants.{AfterSdn, Other}
 use Rattle.times.specs.Times.{wait_of}
-use Rattle.state.specs.World.{What, aRequest, aToken, aReply, Event, accepted, begins, ends, sends, confirmed}
+use Rattle.state.specs.World.{What, a_request, a_token, a_reply, Event, accepted, begins, ends, sends, confirmed}
 use Rattle.state.specs.World.{collected, indicated, resets, refused}
 use Rattle.state.specs.Counts.{control_in, counts}
 
 -- whether the last sending in the hold was an SDN: a request that is neither SDA nor SRD. A reply is no sending in a
 -- hold
 unfoldable pub sdn_by : What → List ℕ → Bool → Bool
-sdn_by (aRequest p n) o b = pick (counts (control_in o)) false true
-sdn_by aToken o b = false
-sdn_by aReply o b = b
+sdn_by (a_request p n) o b = pick (counts (control_in o)) false true
+sdn_by a_token o b = false
+sdn_by a_reply o b = b
 
 unfoldable pub sdn_after : Event → Bool → Bool
 sdn_after (accepted p n) b = b

@@ -36,9 +36,9 @@ pub record World : Type 0 where
 
 -- what is sent: the request at a place of a queue, the token, or a reply
 pub data What : Type 0 where
-  aRequest : Priority → ℕ → What
-  aToken : What
-  aReply : What
+  a_request : Priority → ℕ → What
+  a_token : What
+  a_reply : What
 
 -- what happens in a call: a request is accepted at a place of a queue; a hold begins, a hold ends; octets are to be sent
 -- after a wait; the request at a place is confirmed with its status and its count; its record is collected; a request is

@@ -8,7 +8,7 @@ use Rattle.ring.specs.Ring.{next_of, enter, remove}
 use Rattle.times.specs.declared.Sending.TheVariants.{Other}
 use Rattle.state.specs.declared.Core.{Core}
 use Rattle.state.specs.declared.Moved.{Moved}
-use Rattle.state.specs.World.{Rows, Site, site_of, aToken, sends, still, with_doing, with_stranger, with_ps, with_core}
+use Rattle.state.specs.World.{Rows, Site, site_of, a_token, sends, still, with_doing, with_stranger, with_ps, with_core}
 use Rattle.state.specs.World.{with_masters}
 use Rattle.state.specs.Request.{once, wait_for}
 use Rattle.state.specs.Pass.{ns, token_to, pass_core, pass_events, pass, pass_again, ps_without, without, recheck}
@@ -76,7 +76,7 @@ module _ (masters marks : List ℕ) (high low : Rows) where
   is-without c n a e f g i = rw (← e, ← f, ← g, i)
 
   does-pass-again : (c : Core) (n : ℕ) {out out' : List ℕ} {r : Moved} → n ≡ next_of masters c.ts.0
-      → Sends (with_doing (once c.doing) c) (sends aToken (token_to n c) (wait_for c Other) ∷ []) out r out'
+      → Sends (with_doing (once c.doing) c) (sends a_token (token_to n c) (wait_for c Other) ∷ []) out r out'
       → Does (pass_again (site_of c masters marks high low)) out r masters marks high low out'
   unfolding pass_again ns
   does-pass-again c n e s = rw (← e) (does-sends c s)
@@ -92,7 +92,7 @@ leaves_at s h = sym (unless-less _ h refl)
 
 module _ (c : Core) (masters : List ℕ) (n : ℕ) {out out' : List ℕ} {r : Moved} (e : n ≡ next_of masters c.ts.0) where
   pub rechecks-again : c.doing.sendings < 3
-      → Sends (with_doing (once c.doing) c) (sends aToken (token_to n c) (wait_for c Other) ∷ []) out r out'
+      → Sends (with_doing (once c.doing) c) (sends a_token (token_to n c) (wait_for c Other) ∷ []) out r out'
       → Rechecks c masters out r masters out'
   rechecks-again h s =
       record {

@@ -2,7 +2,7 @@
 #![tactic(auto)]
 
 ghost use Rattle.std.specs.Prelude.{◌≡◌, ◌<◌, ◌≤◌, length, [], ◌∷◌};
-ghost use Rattle.state.specs.World.{rows, site_of, with_doing, aToken, sends};
+ghost use Rattle.state.specs.World.{rows, site_of, with_doing, a_token, sends};
 ghost use Rattle.state.specs.Request.{once, wait_for};
 ghost use Rattle.state.specs.Pass.{token_to, ps_without};
 ghost use Rattle.state.specs.Hold.{token as hold_token};
@@ -72,7 +72,7 @@ pub fn token(
 fn pass_again(ns: Address, c: Core, out: &mut [u8]) -> Moved
     requires { (Lawful c) × ((ns.0 < 127) × ((c.doing.sendings < 255) × (255 ≤ length out.old))) }
     ensures { Sends (with_doing (once c.doing) c)
-        (sends aToken (token_to ns.0 c) (wait_for c Sending.Other) ∷ []) out.old result out.new }
+        (sends a_token (token_to ns.0 c) (wait_for c Sending.Other) ∷ []) out.old result out.new }
 {
     let ts = c.ts;
     let d = c.doing;
