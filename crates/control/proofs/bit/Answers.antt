@@ -7,13 +7,13 @@ use Rattle.control.proofs.bit.Goals as goal
 pub returns-then-b : goal.returns-then-b
 unfolding bit
 returns-then-b c = record {
-      value = search flags depth 20;
-      upper_bound = omega arith;
-    }
+  value = search flags depth 20;
+  upper_bound = omega arith;
+}
 
 pub returns-else-b : goal.returns-else-b
 unfolding bit
 returns-else-b c = record {
-      value = search flags depth 20;
-      upper_bound = omega arith;
-    }
+  value = search flags depth 20;
+  upper_bound = omega arith;
+}
