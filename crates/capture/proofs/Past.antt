@@ -1,11 +1,12 @@
 -- What the lister may let go: octets past the longest capture only make it long. Assumes nothing.
 use Prim.Native.Nat.{ℕ, zero, suc, ◌+◌, ◌*◌, ◌<◌, ◌≤◌}
 use mathlib.Core.Bool.{Bool, true, false}
-use mathlib.Core.List.{List, ◌++◌}
+use mathlib.Core.List.{List, [], ◌++◌}
 use mathlib.Core.Path.{◌≡◌, refl, sym, ap, ◌∙◌}
 use native.Mathlib.Omega.{arith}
 use lib.ListN.{length, take, drop, length-append, length-drop, take-append-drop, get_or-append}
 use lib.Seq.{take_all, take-append-le, drop-append-le, length-take-le}
+use Rattle.std.proofs.Common.{append-nil}
 use Rattle.choice.specs.Choice.{less}
 use Rattle.choice.proofs.Rules.{pick_true, pick-false, less-true, less-false, true-less, false-less}
 use Rattle.frame.specs.Reading.{octet, part}
@@ -73,3 +74,11 @@ listing-cut s x = by_length (less (length s) LONGEST) refl
         sym (listing-first (take LONGEST s) (drop LONGEST s) (octets-take LONGEST s x)
         (omega (arith, length-take-le LONGEST s (false-less _ _ e))))
         ∙ ap listing (take-append-drop LONGEST s)
+
+-- nor do octets behind a string that is so long: what a buffer of LONGEST keeps has the listing of all
+pub listing-kept : (s t : List ℕ) → Octets s → (length s < LONGEST → t ≡ []) → listing s ≡ listing (s ++ t)
+listing-kept s t x e = by_length (less (length s) LONGEST) refl
+  where
+    by_length : (b : Bool) → less (length s) LONGEST ≡ b → listing s ≡ listing (s ++ t)
+    by_length true f = ap listing (sym (append-nil s) ∙ ap (λ r. s ++ r) (sym (e (true-less _ _ f))))
+    by_length false f = sym (listing-first s t x (false-less _ _ f))

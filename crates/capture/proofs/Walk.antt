@@ -2,10 +2,11 @@
 -- lays one line more; the walk ends at a cut body or behind the last. Assumes nothing.
 use Prim.Native.Nat.{ℕ, suc, ◌+◌, ◌-◌, ◌*◌, ◌≤◌, ◌<◌}
 use mathlib.Core.List.{List, [], ◌++◌, append_assoc}
-use mathlib.Core.Path.{◌≡◌, sym, ap, ◌∙◌}
+use mathlib.Core.Path.{◌≡◌, refl, sym, ap, ◌∙◌}
 use native.Mathlib.Omega.{arith}
 use native.Mathlib.Nat.{zero-add}
-use lib.ListN.{length, drop}
+use lib.ListN.{length, take, drop}
+use Rattle.std.proofs.lemmas.List.{take_at}
 use Rattle.choice.proofs.Rules.{unless-less, less-true, less-false, pick_true, pick-false}
 use Rattle.frame.specs.Reading.{part}
 use Rattle.laid.specs.Laid.{Lays}
@@ -108,3 +109,15 @@ listed-laid s out e b r m h g q x =
         omega (arith, x.place, x.near),
       ),
     )
+
+-- so many octets of it as `list` answers are the listing
+listed-room : (s out : List ℕ) → ROOM ≤ length out → listed s out ≡ length (listing s)
+unfolding listed
+listed-room s out h = pick-false 0 (length (listing s)) (less-false h)
+
+left-room : (s out : List ℕ) → ROOM ≤ length out → left s out ≡ listing s ++ drop (length (listing s)) out
+unfolding left
+left-room s out h = pick-false out (listing s ++ drop (length (listing s)) out) (less-false h)
+
+pub listing-front : (s out : List ℕ) → ROOM ≤ length out → take (listed s out) (left s out) ≡ listing s
+listing-front s out h = rw (listed-room s out h, left-room s out h) (take_at (listing s) _ _ refl)

@@ -1,10 +1,14 @@
 // The lister: reads a capture on standard input to its end and writes its listing. All that matters is `capture::list`.
-// Octets past the longest capture only make it long (`listing-cut` in the proofs of capture), so the buffer holds one
+// Octets past the longest capture only make it long (`listing-kept` in the proofs of capture), so the buffer holds one
 // more than that and the rest is let go.
-ghost use Rattle.std.specs.Prelude.{◌≡◌, length};
-ghost use Rattle.capture.specs.Listing.{LONGEST as Listing-as-LONGEST, ROOM as Listing-as-ROOM};
+#![tactic(auto)]
 
-use libc::{STDIN_FILENO, STDOUT_FILENO};
+ghost use Rattle.std.specs.Prelude.{◌≡◌, ◌<◌, ◌≤◌, length, take, IfOk, IfSome, OnOk};
+ghost use Rattle.std.specs.Io.KnownBytes.{Appends, Consumes, IsAtEnd};
+ghost use Rattle.capture.specs.Listing.{LONGEST as listing_longest, ROOM as listing_room, listing};
+
+use std::io;
+use std::io::{Read, Write};
 
 // 2 octets of count, 4096 entries of 5, 4096 bodies of 255, and one octet more.
 const LONGEST: usize = 1064963;
@@ -13,42 +17,67 @@ const ROOM: usize = 139274;
 
 // The buffers: as much of a capture as its listing takes note of, and room for any listing.
 fn longest() -> [u8; 1064963]
-    ensures { length result ≡ Listing-as-LONGEST }
+    ensures { length result ≡ listing_longest }
 {
     [0; 1064963]
 }
 
 fn room() -> [u8; 139274]
-    ensures { length result ≡ Listing-as-ROOM }
+    ensures { length result ≡ listing_room }
 {
     [0; 139274]
 }
 
+// Reads till a buffer is full or the input ends, and gives how many octets of the buffer were read.
+fn read_full<R: Read>(input: &mut R, octets: &mut [u8]) -> io::Result<usize>
+    ensures within { IfOk result (λ n. n ≤ length octets.new) }
+    ensures bytes { IfOk result (λ n. Consumes (R.remaining input.old) (R.remaining input.new) (take n octets.new)) }
+    ensures end { IfOk result (λ n. n < length octets.new → IsAtEnd (R.remaining input.new)) }
+{
+    let mut done = 0;
+    while done < octets.len() {
+        let n = input.read(&mut octets[done..])?;
+        if n == 0 {
+            return Ok(done);
+        }
+        done += n;
+    }
+    Ok(done)
+}
+
 // Reads on by way of a spare buffer, till the input ends.
-fn read_on(spare: &mut [u8]) {
+fn read_on<R: Read>(input: &mut R, spare: &mut [u8]) -> io::Result<()> {
     let mut left: u64 = 18446744073709551615;
     while 0 < left {
-        let got = libc::read(STDIN_FILENO, spare);
-        if got <= 0 {
-            return;
+        if input.read(spare)? == 0 {
+            return Ok(());
         }
         left -= 1;
     }
+    Ok(())
 }
 
 // Lets the rest of the input go.
-fn let_go() {
-    let mut spare = io::buffer();
-    read_on(&mut spare);
+fn let_go<R: Read>(input: &mut R) -> io::Result<()> {
+    let mut spare = [0u8; 4096];
+    read_on(input, &mut spare)
 }
 
-fn main() {
+// Reads a capture to its end, and writes its listing.
+pub fn list<R: Read, W: Write>(input: &mut R, output: &mut W) -> io::Result<()>
+    ensures { OnOk result (IfSome (R.remaining input.old) (λ capture.
+        Appends (W.contents output.old) (W.contents output.new) (listing capture))) }
+{
     let mut octets = longest();
     let mut out = room();
-    let n = io::read_full(STDIN_FILENO, &mut octets);
+    let n = read_full(input, &mut octets)?;
     if n == LONGEST {
-        let_go();
+        let_go(input)?;
     }
     let count = capture::list(&octets[..n], &mut out);
-    io::write_all(STDOUT_FILENO, &out[..count]);
+    output.write_all(&out[..count])
+}
+
+fn main(rt: HostRuntime) -> io::Result<()> {
+    list(&mut rt.stdin(), &mut rt.stdout())
 }
