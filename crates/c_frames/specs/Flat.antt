@@ -1,6 +1,6 @@
 -- What the C boundary hands over: answers as structs of numbers. 255 stands for "no access point". Assumes nothing.
 use Rattle.std.specs.Prelude.{ℕ, List}
-use Rattle.choice.specs.Choice.{pick, less, same, said}
+use Rattle.choice.specs.Choice.{pick, less, said}
 use Rattle.frame.specs.declared.Head.{Head}
 use Rattle.frame.specs.declared.Fields.{Fields}
 use Rattle.frame.specs.declared.Fields.TheVariants.{Token, Short, Frame}

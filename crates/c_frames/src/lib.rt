@@ -1,5 +1,7 @@
 // The reader and the writer for a caller that gives numbers and takes structs of numbers. Only an FC that is not
 // listed, which the fields cannot hold, is refused here. Assumes nothing.
+#![tactic(auto)]
+
 ghost use Rattle.std.specs.Prelude.{◌≡◌};
 ghost use Rattle.frame.specs.Reading.{read as reading_read};
 ghost use Rattle.c_frames.specs.Flat.{flat as flat_flat, flat_written, unlisted as flat_unlisted, writes, leaves};
