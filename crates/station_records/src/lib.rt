@@ -1,6 +1,7 @@
 // The station's calls submit and collect for a caller whose row is a slice of record structs: each takes any state,
-// any row and any octets, and answers as the calls over a row of octets do. The two that take the slice are thin, and
-// each is proved by a walk of its own. Assumes nothing.
+// any row and any octets, and answers as the calls over a row of octets do. The two that take the slice are thin.
+#![tactic(auto)]
+
 ghost use Rattle.std.specs.Prelude.{◌≡◌};
 ghost use Rattle.rows.specs.Rows.{left};
 ghost use Rattle.records.specs.Records.{row_of};
