@@ -1,4 +1,6 @@
 // What a frame does in each phase. Assumes nothing.
+#![tactic(auto)]
+
 ghost use Rattle.state.specs.World.{rows};
 ghost use Rattle.state.specs.Calls.{heard};
 ghost use Rattle.phases.specs.Underway.{Underway};

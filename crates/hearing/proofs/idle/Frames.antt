@@ -18,7 +18,7 @@ use Rattle.times.specs.declared.Sending.TheVariants.{Reply}
 use Rattle.state.specs.declared.Core.{Core}
 use Rattle.state.specs.declared.Kept.{Kept}
 use Rattle.state.specs.declared.Responder.{Responder}
-use Rattle.state.specs.World.{Rows, World, Called}
+use Rattle.state.specs.World.{Rows, World}
 use Rattle.state.specs.Request.{wait_for}
 use Rattle.state.specs.Answering.{Asked, answer}
 use Rattle.state.specs.Hold.{token}

@@ -1,11 +1,11 @@
 -- What a call leaves where an act was done, where a request was answered, and where nothing was done or the call is
 -- refused: each is what the definition tells. Assumes nothing.
 use Prim.Native.Nat.{ℕ}
-use mathlib.Core.Path.{◌≡◌, refl, sym}
-use mathlib.Core.List.{List, [], ◌∷◌}
+use mathlib.Core.Path.{◌≡◌, refl}
+use mathlib.Core.List.{List}
 use lib.ListN.{length}
 use native.Mathlib.Omega.{arith}
-use Rattle.laid.specs.Laid.{laid, Lays}
+use Rattle.laid.specs.Laid.{Lays}
 use Rattle.laid.proofs.Laws.{laid_nil}
 use Rattle.state.specs.declared.Core.{Core}
 use Rattle.state.specs.declared.Kept.{Kept}
@@ -14,7 +14,7 @@ use Rattle.state.specs.declared.Indication.TheVariants.{None}
 use Rattle.state.specs.declared.Moved.{Moved}
 use Rattle.state.specs.declared.Spoken.{Spoken}
 use Rattle.state.specs.declared.Responder.{Responder}
-use Rattle.state.specs.World.{Rows, Event, Done, site_of, with_site, with_memory}
+use Rattle.state.specs.World.{Rows, Event, Done, with_site, with_memory}
 use Rattle.state.specs.Answering.{Answered, replies}
 use Rattle.state.specs.Calls.{called, replying, nothing, refuse}
 use Rattle.state.specs.Told.{Does, Says, telling, untold, adds, stands, standing, heard_of, world_in}
