@@ -2,7 +2,6 @@
 use Prim.Native.Nat.{ℕ}
 use mathlib.Core.Path.{◌≡◌}
 use mathlib.Core.List.{List, []}
-use lib.ListN.{length}
 use Rattle.frame.specs.declared.Answer.{Answer}
 use Rattle.frame.specs.declared.Answer.TheVariants.{Refused, Read}
 use Rattle.frame.specs.declared.Fields.{Fields}
@@ -11,7 +10,7 @@ use Rattle.frame.specs.Reading.{shown}
 use Rattle.state.specs.declared.Phase.{Phase}
 use Rattle.state.specs.declared.Phase.TheVariants.{Idle, Awaited, Sdn, Check, ToSelf}
 use Rattle.state.specs.declared.Outcome.TheVariants.{Gone}
-use Rattle.state.specs.World.{Site, Done, still}
+use Rattle.state.specs.World.{Site, still}
 use Rattle.state.specs.Request.{record_of, judged}
 use Rattle.state.specs.Pass.{recheck}
 use Rattle.state.specs.Hold.{begin, ended, retry, concluded}

@@ -1,6 +1,6 @@
 -- What is known of a frame that was read: its data are at most 246 octets, and its addresses and access points are in
 -- range. Assumes nothing.
-use Prim.Native.Nat.{ℕ, ◌+◌, ◌-◌, ◌≤◌}
+use Prim.Native.Nat.{ℕ, ◌≤◌}
 use mathlib.Core.Path.{◌≡◌}
 use mathlib.Core.List.{List}
 use native.Mathlib.Omega.{arith}
@@ -11,7 +11,7 @@ use Rattle.frame.specs.declared.Fields.TheVariants.{Frame}
 use Rattle.frame.specs.declared.Head.{Head}
 use Rattle.frame.specs.declared.Part.{Part}
 use Rattle.frame.specs.Format.{unwritable}
-use Rattle.frame.specs.Reading.{extensions, data_at, shown, read}
+use Rattle.frame.specs.Reading.{data_at, shown, read}
 use Rattle.frame_laws.proofs.Accepted.{Accepted, token, short, in-SD1, in-SD2, in-SD3, accepted}
 use Rattle.frame_laws.proofs.Body.{writable}
 use Rattle.frame_laws.proofs.Theorems.{read-writable}

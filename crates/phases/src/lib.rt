@@ -1,4 +1,6 @@
 // What slot expiry, "sent" and, while a reply is awaited, a frame do in each phase. Assumes nothing.
+#![tactic(auto)]
+
 ghost use Rattle.std.specs.Prelude.{◌≡◌, ◌<◌, ◌≤◌, length};
 ghost use Rattle.frame.specs.Reading.{read as reading_read};
 ghost use Rattle.queue.specs.Queue.{AREA};
