@@ -1,5 +1,7 @@
 // The station's calls frame, sent and slot expired, where the arrays of its state are lent: each takes any core,
 // arrays, rows, buffers and octets, and answers. Assumes nothing.
+#![tactic(auto)]
+
 ghost use Rattle.std.specs.Prelude.{◌≡◌, length};
 ghost use Rattle.state.specs.World.{rows};
 ghost use Rattle.state.specs.Calls.{frame as calls_frame, sent as calls_sent, slot as calls_slot};
