@@ -1,6 +1,8 @@
 // The station's seven calls on a state by value: start, submit, collect, frame, sent, slot and reset. Each takes any
 // state, rows, buffers and octets, and answers. Here are frame, sent and slot; the others are handed on. Assumes
 // nothing.
+#![tactic(auto)]
+
 ghost use Rattle.std.specs.Prelude.{◌≡◌, length};
 ghost use Rattle.state.specs.World.{rows, world_of};
 ghost use Rattle.state.specs.Calls.{frame as calls_frame, sent as calls_sent, slot as calls_slot};

@@ -1,0 +1,10 @@
+-- `station::frame` meets its contract.
+use Rattle.state.specs.World.{world_of}
+use Rattle.station.proofs.Answered.{answered}
+use Rattle.station.proofs.frame.Goals as goal
+
+pub returns : goal.returns
+unfolding world_of
+returns c =
+    answered _ _
+    c.frame-h.ensures
