@@ -1,4 +1,6 @@
 // Submit, collect, reset and show as replay plays them: the call on the station, and its line. Assumes nothing.
+#![tactic(auto)]
+
 ghost use Rattle.std.specs.Prelude.{◌≡◌, ◌≤◌, length};
 ghost use Rattle.laid.specs.Laid.{Lays};
 ghost use Rattle.printed.specs.Printed.{shown_line};

@@ -1,4 +1,6 @@
 // Frame, sent and slot expired as replay plays them: the call on the station, and its line. Assumes nothing.
+#![tactic(auto)]
+
 ghost use Rattle.std.specs.Prelude.{◌≡◌, ◌≤◌, length, []};
 ghost use Rattle.state.specs.World.{rows, world_of};
 ghost use Rattle.state.specs.Calls.{frame as calls_frame, sent as calls_sent, slot as calls_slot};
