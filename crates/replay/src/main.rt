@@ -1,13 +1,16 @@
 // Replay: reads a replay script on standard input to its end, a block at a time, and answers each line as soon as it
 // is whole. What a line does and prints is `desk::answer`, which lines there are is `typed_lines::gather`; here they
 // are called in turn, in memory that does not grow with the script.
-ghost use Rattle.std.specs.Prelude.{◌≡◌, false, length};
+#![tactic(auto)]
+
+ghost use Rattle.std.specs.Prelude.{◌≡◌, false, length, IfOk};
 ghost use Rattle.desk.specs.Desk.{Few, Arrays};
 ghost use Rattle.typed_lines.specs.Intake.{ROOM};
 ghost use Rattle.replay.specs.Replay.{Ready};
 
 use desk::Held;
-use libc::{STDIN_FILENO, STDOUT_FILENO};
+use std::io;
+use std::io::{Read, Write};
 
 // A row of as many places as a queue may have, and its data area.
 const ROW: usize = request::SIZE * queue::PLACES;
@@ -36,7 +39,8 @@ fn unbegun() -> Held
 }
 
 // Answers the line at hand if it is whole.
-fn heed(
+fn heed<W: Write>(
+    output: &mut W,
     whole: bool,
     h: Held,
     count: usize,
@@ -46,23 +50,23 @@ fn heed(
     low: &mut [u8],
     larea: &mut [u8],
     text: &mut [u8],
-) -> Pending
+) -> io::Result<Pending>
     requires { Ready h count line.old high.old harea.old low.old larea.old text.old }
-    ensures { Ready result.held result.count line.new high.new harea.new
-        low.new larea.new text.new }
+    ensures { IfOk result (λ p. Ready p.held p.count line.new high.new harea.new low.new larea.new text.new) }
 {
     if !whole {
-        return Pending { held: h, count };
+        return Ok(Pending { held: h, count });
     }
     let s = desk::answer(h, &line[..count], high, harea, low, larea, text);
     let held = s.held;
     let n = s.length;
-    io::write_all(STDOUT_FILENO, &text[..n]);
-    Pending { held, count: 0 }
+    output.write_all(&text[..n])?;
+    Ok(Pending { held, count: 0 })
 }
 
 // Answers each line that a block makes whole.
-fn take_in(
+fn take_in<W: Write>(
+    output: &mut W,
     block: &[u8],
     h: Held,
     count: usize,
@@ -72,10 +76,9 @@ fn take_in(
     low: &mut [u8],
     larea: &mut [u8],
     text: &mut [u8],
-) -> Pending
+) -> io::Result<Pending>
     requires { Ready h count line.old high.old harea.old low.old larea.old text.old }
-    ensures { Ready result.held result.count line.new high.new harea.new
-        low.new larea.new text.new }
+    ensures { IfOk result (λ p. Ready p.held p.count line.new high.new harea.new low.new larea.new text.new) }
 {
     let mut held = h;
     let mut kept = count;
@@ -83,15 +86,19 @@ fn take_in(
     while at < block.len() {
         let g = typed_lines::gather(block, at, line, kept);
         at = g.next;
-        let p = heed(g.whole, held, g.count, line, high, harea, low, larea, text);
+        let p = heed(
+            output, g.whole, held, g.count, line, high, harea, low, larea, text,
+        )?;
         held = p.held;
         kept = p.count;
     }
-    Pending { held, count: kept }
+    Ok(Pending { held, count: kept })
 }
 
 // Answers the lines of the input, the last one too if it has no line end.
-fn serve(
+fn serve<R: Read, W: Write>(
+    input: &mut R,
+    output: &mut W,
     block: &mut [u8],
     line: &mut [u8],
     high: &mut [u8],
@@ -99,27 +106,41 @@ fn serve(
     low: &mut [u8],
     larea: &mut [u8],
     text: &mut [u8],
-)
+) -> io::Result<()>
     requires { (length line.old ≡ ROOM) × (Arrays high.old harea.old low.old larea.old text.old) }
 {
     let mut held = unbegun();
     let mut kept = 0;
     let mut left: u64 = 18446744073709551615;
     while 0 < left {
-        let n = io::count(libc::read(STDIN_FILENO, block), block);
+        let n = input.read(block)?;
         if n == 0 {
-            heed(true, held, kept, line, high, harea, low, larea, text);
-            return;
+            heed(
+                output, true, held, kept, line, high, harea, low, larea, text,
+            )?;
+            return Ok(());
         }
-        let p = take_in(&block[..n], held, kept, line, high, harea, low, larea, text);
+        let p = take_in(
+            output,
+            &block[..n],
+            held,
+            kept,
+            line,
+            high,
+            harea,
+            low,
+            larea,
+            text,
+        )?;
         held = p.held;
         kept = p.count;
         left -= 1;
     }
+    Ok(())
 }
 
-fn main() {
-    let mut block = io::buffer();
+fn main(rt: HostRuntime) -> io::Result<()> {
+    let mut block = [0u8; 4096];
     let mut line = [0u8; 4097];
     let mut high = [0u8; ROW];
     let mut harea = [0u8; AREA];
@@ -127,6 +148,14 @@ fn main() {
     let mut larea = [0u8; AREA];
     let mut text = [0u8; 8192];
     serve(
-        &mut block, &mut line, &mut high, &mut harea, &mut low, &mut larea, &mut text,
-    );
+        &mut rt.stdin(),
+        &mut rt.stdout(),
+        &mut block,
+        &mut line,
+        &mut high,
+        &mut harea,
+        &mut low,
+        &mut larea,
+        &mut text,
+    )
 }
