@@ -40,8 +40,7 @@ pub fn fill(area: &mut [u8], place: u8, x: &[u8])
 // Submits a request with its data.
 pub fn submit(ts: Address, q: Queue, r: Record, x: &[u8], row: &mut [u8], area: &mut [u8]) -> Taken
     requires { (Ruled q) × (Lent q row.old area.old) }
-    ensures { left result row.new area.new
-        ≡ submitted ts.0 q r x.now row.old area.old }
+    ensures { left result row.new area.new ≡ submitted ts.0 q r x.now row.old area.old }
 {
     let t = queue::take(ts, q, r, x.len());
     if t.refused != 0 {
