@@ -1,5 +1,7 @@
 // A call of the replay script, played on a station that was started: what the words of its line give the call, the
 // call, and its line. Assumes nothing.
+#![tactic(auto)]
+
 ghost use Rattle.std.specs.Prelude.{◌≡◌, ◌≤◌, length};
 ghost use Rattle.state.specs.World.{rows, world_of};
 ghost use Rattle.state.specs.Runs.{call as runs_call};
