@@ -1,5 +1,7 @@
 // The C boundary: the reader, the writer, the lister and the station for programs in C. Numbers go in and structs of
 // numbers come out; every number is taken, and out-of-rule ones are refused. Assumes nothing.
+#![tactic(auto)]
+
 ghost use Rattle.std.specs.Prelude.{◌≡◌, [], length};
 ghost use Rattle.frame.specs.Reading.{read as reading_read};
 ghost use Rattle.frame.specs.Format.{written, left};

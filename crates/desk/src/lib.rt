@@ -1,5 +1,7 @@
 // What replay holds, and what each line does to it: the whole of the replay script's page but for reading the lines and
 // writing the answers. Assumes nothing.
+#![tactic(auto)]
+
 ghost use Rattle.std.specs.Prelude.{◌≡◌, ◌≤◌, length, replicate};
 ghost use Rattle.laid.specs.Laid.{laid};
 ghost use Rattle.typed.specs.Places.{LONGEST as Places-as-LONGEST};
