@@ -1,5 +1,4 @@
 -- `desk::answer` meets its contract: each return is one case.
-use borrow.Author.Rules.{rules}
 use native.Mathlib.Omega.{arith}
 use Rattle.choice.specs.Choice.{pick}
 use Rattle.choice.proofs.Rules.{same_true, same_false, less-true, less-false}

@@ -1,5 +1,4 @@
 -- `desk::answer_by` meets its contract: a start, or another call.
-use borrow.Author.Rules.{rules}
 use Rattle.choice.specs.Choice.{pick}
 use Rattle.choice.proofs.Rules.{said-true, said-false}
 use Rattle.desk.specs.Desk.{answer_by}

@@ -1,11 +1,9 @@
 -- `desk::clear` meets its contract. The loop's invariant: what was passed is zeros, and all else as it was.
-use Prim.Native.Nat.{◌-◌, ◌≤◌}
 use mathlib.Core.Path.{◌≡◌, refl, sym, ap, ◌∙◌}
 use native.Mathlib.Omega.{arith}
-use lib.ListN.{length, set, length-set}
-use Rattle.laid.specs.Laid.{laid}
+use lib.ListN.{set, length-set}
 use Rattle.laid.proofs.Laws.{laid_nil}
-use Rattle.desk.proofs.Holding.{zeros, zeros-more}
+use Rattle.desk.proofs.Holding.{zeros-more}
 use Rattle.desk.proofs.clear.Goals as goal
 
 pub loop-i-init : goal.loop-i-init

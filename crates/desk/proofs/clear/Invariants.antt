@@ -1,11 +1,9 @@
 -- `desk::clear` meets its contract. The loop's invariant: what was passed is zeros, and all else as it was.
 use Prim.Native.Nat.{◌-◌, ◌≤◌}
-use mathlib.Core.Path.{◌≡◌, refl, sym, ap, ◌∙◌}
-use native.Mathlib.Omega.{arith}
-use lib.ListN.{length, set, length-set}
+use mathlib.Core.Path.{◌≡◌}
+use lib.ListN.{length}
 use Rattle.laid.specs.Laid.{laid}
-use Rattle.laid.proofs.Laws.{laid_nil}
-use Rattle.desk.proofs.Holding.{zeros, zeros-more}
+use Rattle.desk.proofs.Holding.{zeros}
 use Rattle.desk.proofs.clear.Given as goal
 
 abbrev pub invariant-loop-i : goal.invariant-loop-i

@@ -1,5 +1,4 @@
 -- `desk::go_on` meets its contract: nothing before the first start, else the call on the rows in their arrays.
-use borrow.Author.Rules.{rules}
 use Prim.Native.Nat.{◌*◌}
 use mathlib.Core.Path.{sym, ◌∙◌}
 use native.Mathlib.Omega.{arith}
@@ -16,7 +15,7 @@ unknown-requires c =
 pub returns-then-not-h : goal.returns-then-not-h
 returns-then-not-h c =
     let a = c.args in unbegun a.call a.line.now a.h a.high.now a.harea.now a.low.now
-    a.larea.now a.text.now (c.if-not-h.true) c.requires.0
+    a.larea.now a.text.now (not-true _ c.if-not-h.true) c.requires.0
     c.requires.1 c.unknown.ensures
 
 pub slice_bounds-play-end-2 : goal.slice_bounds-play-end-2
@@ -52,11 +51,11 @@ returns c =
     let a = c.args in
     let w = c.requires.0 in
     let f = c.requires.1 in
-    let k = c.play-p.auto.1.1.1 in
+    let k = c.play-p.auto in
     goes_on a.call a.line.now a.h a.high.now a.harea.now a.low.now a.larea.now
-    a.text.now w f (c.if-not-h.false) c.play-p.ensures
-    (k.0 ∙ length-take-le (SIZE * a.h.high) a.high.now (omega (arith, w.high, f.high)))
-    (k.1.0 ∙ length-take-le (246 * a.h.high) a.harea.now (omega (arith, w.harea, f.high)))
-    (k.1.1.0 ∙ length-take-le (SIZE * a.h.low) a.low.now (omega (arith, w.low, f.low)))
-    (k.1.1.1.0 ∙ length-take-le (246 * a.h.low) a.larea.now (omega (arith, w.larea, f.low)))
-    k.1.1.1.1.0
+    a.text.now w f (not-false _ c.if-not-h.false) c.play-p.ensures
+    (k.high ∙ length-take-le (SIZE * a.h.high) a.high.now (omega (arith, w.high, f.high)))
+    (k.harea ∙ length-take-le (246 * a.h.high) a.harea.now (omega (arith, w.harea, f.high)))
+    (k.low ∙ length-take-le (SIZE * a.h.low) a.low.now (omega (arith, w.low, f.low)))
+    (k.larea ∙ length-take-le (246 * a.h.low) a.larea.now (omega (arith, w.larea, f.low)))
+    k.text

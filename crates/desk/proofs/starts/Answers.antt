@@ -1,5 +1,4 @@
 -- `desk::starts` meets its contract: each call is one case.
-use borrow.Author.Rules.{rules}
 use Rattle.desk.specs.Desk.{starts}
 use Rattle.desk.proofs.starts.Goals as goal
 
