@@ -1,5 +1,4 @@
--- What the program's functions hand each other: the arrays as they are to be, and how much of the line is kept. Assumes
--- nothing.
+-- What the program's functions hand each other: the arrays as they are to be, and how much of the line is kept.
 use Rattle.std.specs.Prelude.{ℕ, ◌≤◌, List, ◌≡◌, length}
 use Rattle.typed_lines.specs.Intake.{ROOM}
 use Rattle.desk.specs.declared.Held.{Held}

@@ -1,12 +1,14 @@
 // Replay: reads a replay script on standard input to its end, a block at a time, and answers each line as soon as it
 // is whole. What a line does and prints is `desk::answer`, which lines there are is `typed_lines::gather`; here they
-// are called in turn, in memory that does not grow with the script.
+// are called in turn, in memory that does not grow with the script. What is written is what the script's lines print.
 #![tactic(auto)]
 
-ghost use Rattle.std.specs.Prelude.{◌≡◌, false, length, IfOk};
+ghost use Rattle.std.specs.Prelude.{◌≡◌, ◌<◌, false, length, IfOk, IfSome, OnOk};
+ghost use Rattle.std.specs.Io.KnownBytes.{Appends};
 ghost use Rattle.desk.specs.Desk.{Few, Arrays};
 ghost use Rattle.typed_lines.specs.Intake.{ROOM};
 ghost use Rattle.replay.specs.Replay.{Ready};
+ghost use Rattle.replay.specs.Script.{READS, answers, stand, heeded, heeded_line, behind, written};
 
 use desk::Held;
 use std::io;
@@ -52,7 +54,11 @@ fn heed<W: Write>(
     text: &mut [u8],
 ) -> io::Result<Pending>
     requires { Ready h count line.old high.old harea.old low.old larea.old text.old }
-    ensures { IfOk result (λ p. Ready p.held p.count line.new high.new harea.new low.new larea.new text.new) }
+    ensures ready { IfOk result (λ p. Ready p.held p.count line.new high.new harea.new low.new larea.new text.new) }
+    ensures stand { IfOk result (λ p. stand p.held p.count line.new high.new harea.new low.new larea.new
+        ≡ heeded whole (stand h count line.old high.old harea.old low.old larea.old)) }
+    ensures bytes { OnOk result (Appends (W.contents output.old) (W.contents output.new)
+        (heeded_line whole (stand h count line.old high.old harea.old low.old larea.old))) }
 {
     if !whole {
         return Ok(Pending { held: h, count });
@@ -78,7 +84,11 @@ fn take_in<W: Write>(
     text: &mut [u8],
 ) -> io::Result<Pending>
     requires { Ready h count line.old high.old harea.old low.old larea.old text.old }
-    ensures { IfOk result (λ p. Ready p.held p.count line.new high.new harea.new low.new larea.new text.new) }
+    ensures ready { IfOk result (λ p. Ready p.held p.count line.new high.new harea.new low.new larea.new text.new) }
+    ensures stand { IfOk result (λ p. stand p.held p.count line.new high.new harea.new low.new larea.new
+        ≡ behind block.now (stand h count line.old high.old harea.old low.old larea.old)) }
+    ensures bytes { OnOk result (Appends (W.contents output.old) (W.contents output.new)
+        (written block.now (stand h count line.old high.old harea.old low.old larea.old))) }
 {
     let mut held = h;
     let mut kept = count;
@@ -108,6 +118,8 @@ fn serve<R: Read, W: Write>(
     text: &mut [u8],
 ) -> io::Result<()>
     requires { (length line.old ≡ ROOM) × (Arrays high.old harea.old low.old larea.old text.old) }
+    ensures { OnOk result (0 < length block.old → IfSome (R.remaining input.old) (λ script. length script < READS
+        → Appends (W.contents output.old) (W.contents output.new) (answers script))) }
 {
     let mut held = unbegun();
     let mut kept = 0;
@@ -139,7 +151,11 @@ fn serve<R: Read, W: Write>(
     Ok(())
 }
 
-fn main(rt: HostRuntime) -> io::Result<()> {
+// Reads a script to its end, and writes what its lines print.
+fn play_script<R: Read, W: Write>(input: &mut R, output: &mut W) -> io::Result<()>
+    ensures { OnOk result (IfSome (R.remaining input.old) (λ script. length script < READS
+        → Appends (W.contents output.old) (W.contents output.new) (answers script))) }
+{
     let mut block = [0u8; 4096];
     let mut line = [0u8; 4097];
     let mut high = [0u8; ROW];
@@ -148,14 +164,11 @@ fn main(rt: HostRuntime) -> io::Result<()> {
     let mut larea = [0u8; AREA];
     let mut text = [0u8; 8192];
     serve(
-        &mut rt.stdin(),
-        &mut rt.stdout(),
-        &mut block,
-        &mut line,
-        &mut high,
-        &mut harea,
-        &mut low,
-        &mut larea,
+        input, output, &mut block, &mut line, &mut high, &mut harea, &mut low, &mut larea,
         &mut text,
     )
+}
+
+fn main(rt: HostRuntime) -> io::Result<()> {
+    play_script(&mut rt.stdin(), &mut rt.stdout())
 }
