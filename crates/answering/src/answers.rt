@@ -3,7 +3,7 @@
 ghost use Rattle.std.specs.Prelude.{◌≡◌, ◌≤◌, length};
 ghost use Rattle.choice.specs.Choice.{pick};
 ghost use Rattle.state.specs.Answering.{Readable, status_events, sdn_events};
-ghost use Rattle.state.specs.Answering.{asks as the-asks-Answering};
+ghost use Rattle.state.specs.Answering.{asks as answering_asks};
 ghost use Rattle.state.specs.Told.{telling, Says};
 
 use super::{news, reply};
@@ -14,7 +14,7 @@ use state::{Asks, Given, Indication, Kept, Responder, Spoken};
 
 // What a request's service asks.
 pub fn asks(s: Service) -> Asks
-    ensures { result ≡ the-asks-Answering s }
+    ensures { result ≡ answering_asks s }
 {
     match s {
         Service::SdaLow => Asks::Sda,

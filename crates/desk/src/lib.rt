@@ -4,7 +4,7 @@
 
 ghost use Rattle.std.specs.Prelude.{◌≡◌, ◌≤◌, length, replicate};
 ghost use Rattle.laid.specs.Laid.{laid};
-ghost use Rattle.typed.specs.Places.{LONGEST as Places-as-LONGEST};
+ghost use Rattle.typed.specs.Places.{LONGEST as places_longest};
 ghost use Rattle.typed_call.specs.Operands.{high_of, low_of};
 ghost use Rattle.play.specs.Play.{start_by};
 ghost use Rattle.desk.specs.Desk.{Arrays, Few, Answers, desk_of, starts as desk_starts, starting, answer_other};
@@ -100,7 +100,7 @@ fn go_on(
     text: &mut [u8],
 ) -> Said
     requires { (Arrays high.old harea.old low.old larea.old text.old)
-        × (Few h) × (length line.now ≤ Places-as-LONGEST) }
+        × (Few h) × (length line.now ≤ places_longest) }
     ensures { Answers
         (answer_other call line.now
         (desk_of h high.old harea.old low.old larea.old))
@@ -167,7 +167,7 @@ fn answer_by(
     text: &mut [u8],
 ) -> Said
     requires { (Arrays high.old harea.old low.old larea.old text.old)
-        × (Few h) × (length line.now ≤ Places-as-LONGEST) }
+        × (Few h) × (length line.now ≤ places_longest) }
     ensures { Answers
         (answer_by call line.now
         (desk_of h high.old harea.old low.old larea.old))

@@ -21,7 +21,7 @@ use Rattle.control.specs.Control.{listed}
 use Rattle.frame.specs.Format.{SD1, SD2, SD3, SD4, SC, ED, fcs, misdirected}
 use Rattle.frame.specs.Reading.{octet, part, extensions, extended, misnamed, body_refusal, answer, body_answer}
 use Rattle.frame.specs.Reading.{read_body, mismeasured, read_sd2, plain, read_token, read_short, read, refusal}
-use Rattle.frame_laws.specs.Table.{is, framed, addressed, Le, count, first, DA, SA, FC, checked, address}
+use Rattle.frame_laws.specs.Table.{is, framed, addressed, LE, count, first, DA, SA, FC, checked, address}
 use Rattle.frame_laws.specs.Table.{announces, destination_at, source_at, missing, over, no_octets, no_start, cut_sd2}
 use Rattle.frame_laws.specs.Table.{bad_le, wrong_count, wrong_end, wrong_sum, bad_address, bad_control, bad_extension}
 use Rattle.frame_laws.specs.Table.{for_all, table}
@@ -203,7 +203,7 @@ SD1-form s h =
     record { least = omega arith; counted = rw h; bodied = rw h; placed = rw h; brief = rw h; other = rw h }
 
 SD2-form : (s : List ℕ) → octet s 0 ≡ SD2 → 4 ≤ octet s 1 → Form s 4 (octet s 1)
-unfolding is framed Le count first pick
+unfolding is framed LE count first pick
 SD2-form s h least =
     record {
       least = omega arith;
@@ -237,7 +237,7 @@ module _ (s : List ℕ) (h : octet s 0 ≡ SD2) where
   SD2-cut = rw h
 
   SD2-le : bad_le s ≡ said (mismeasured (octet s 1) (octet s 2) (octet s 3))
-  unfolding is bad_le Le mismeasured said less same
+  unfolding is bad_le LE mismeasured said less same
   SD2-le = simp (h, connectives)
 
   SD2-least : said (mismeasured (octet s 1) (octet s 2) (octet s 3)) ≡ false → 4 ≤ octet s 1

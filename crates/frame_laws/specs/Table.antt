@@ -20,20 +20,20 @@ framed s = is s SD1 || is s SD2 || is s SD3
 unfoldable pub addressed : List ℕ → Bool
 addressed s = framed s || is s SD4
 
--- the Le of 68 Le Le 68
-unfoldable pub Le : List ℕ → ℕ
-Le s = octet s 1
+-- the LE of 68 LE LE 68
+unfoldable pub LE : List ℕ → ℕ
+LE s = octet s 1
 
--- the form's octet count: an SD2 has 6 beside those that Le counts
+-- the form's octet count: an SD2 has 6 beside those that LE counts
 unfoldable pub count : List ℕ → ℕ
 count s =
     pick (is s SD1) 6
-    (pick (is s SD2) (6 + Le s)
+    (pick (is s SD2) (6 + LE s)
     (pick (is s SD3) 14
     (pick (is s SD4) 3
     1)))
 
--- where DA stands: behind 68 Le Le 68, or behind the start octet; then SA and FC
+-- where DA stands: behind 68 LE LE 68, or behind the start octet; then SA and FC
 unfoldable pub first : List ℕ → ℕ
 first s = pick (is s SD2) 4 1
 
@@ -85,11 +85,11 @@ no_start s = not (is s SD1 || is s SD2 || is s SD3 || is s SD4 || is s SC)
 unfoldable pub cut_sd2 : List ℕ → Bool
 cut_sd2 s = is s SD2 && ltb (length s) 4
 
--- 4: "SD2: Le outside 4..249, repeats differ, or fourth octet not 68"
+-- 4: "SD2: LE outside 4..249, repeats differ, or fourth octet not 68"
 unfoldable pub bad_le : List ℕ → Bool
 bad_le s =
     is s SD2
-    && (ltb (Le s) 4 || ltb 249 (Le s) || not (eqb (Le s) (octet s 2)) || not (eqb (octet s 3) 0x68))
+    && (ltb (LE s) 4 || ltb 249 (LE s) || not (eqb (LE s) (octet s 2)) || not (eqb (octet s 3) 0x68))
 
 -- 5: "octet count is not the form's"
 unfoldable pub wrong_count : List ℕ → Bool

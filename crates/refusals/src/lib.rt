@@ -135,7 +135,7 @@ pub fn lawless(c: Core, masters: &[u8; 127], started: &[u8; 127], k: Kept) -> bo
 
 // Whether a lent row and data area are not the queue's: refusal 21.
 pub fn unlent(q: Queue, row: &[u8], area: &[u8]) -> bool
-    ensures { result ≡ refusals_unlent q (record { row = row.entry.now; area = area.now }) }
+    ensures { result ≡ refusals_unlent q (record { row = row.now; area = area.now }) }
 {
     queue::misfit(q, request::SIZE, row.len(), area.len())
 }

@@ -3,7 +3,7 @@
 
 ghost use Rattle.std.specs.Prelude.{◌≡◌, [], ◌∷◌, ◌++◌, ◌≤◌, length, take};
 ghost use Rattle.laid.specs.Laid.{laid};
-ghost use Rattle.typed_lines.specs.Intake.{ROOM as Intake-as-ROOM, kept, Gathers};
+ghost use Rattle.typed_lines.specs.Intake.{ROOM as intake_room, kept, Gathers};
 
 const NEWLINE: u8 = 0x0A;
 
@@ -20,7 +20,7 @@ pub struct Gathered {
 
 // Adds an octet to a line of which some are kept, if there is room.
 fn put(c: u8, line: &mut [u8], count: usize) -> usize
-    requires { (length line.old ≡ Intake-as-ROOM) × (count ≤ Intake-as-ROOM) }
+    requires { (length line.old ≡ intake_room) × (count ≤ intake_room) }
     ensures { (result ≡ length (kept (take count line.old ++ (c ∷ []))))
         × (line.new ≡ laid line.old 0 (kept (take count line.old ++ (c ∷ [])))) }
 {
@@ -33,7 +33,7 @@ fn put(c: u8, line: &mut [u8], count: usize) -> usize
 
 // Adds the octets of a block from a place on to a line of which some are kept, up to a line end.
 pub fn gather(block: &[u8], from: usize, line: &mut [u8], count: usize) -> Gathered
-    requires { (length line.old ≡ Intake-as-ROOM) × (count ≤ Intake-as-ROOM) }
+    requires { (length line.old ≡ intake_room) × (count ≤ intake_room) }
     ensures { Gathers line.old block.now from count result line.new }
 {
     let mut i = from;

@@ -8,7 +8,7 @@ ghost use Rattle.choice.specs.Choice.{pick, less, same};
 ghost use Rattle.control.specs.Control.{fc};
 ghost use Rattle.frame.specs.Format.{unit, body, unwritable_frame, written, left};
 ghost use Rattle.frame.specs.Format.{extension as format_extension, addressed as format_addressed};
-ghost use Rattle.frame.specs.Format.{outside as format_outside, SD1 as Format-as-SD1, SD2 as Format-as-SD2, ED as Format-as-ED};
+ghost use Rattle.frame.specs.Format.{outside as format_outside, SD1 as format_sd1, SD2 as format_sd2, ED as format_ed};
 ghost use Rattle.laid.specs.Laid.{laid, Lays};
 ghost use Rattle.write.specs.Adding.{Adds};
 
@@ -189,7 +189,7 @@ fn lay_body(h: Head, control: u8, data: &[u8], out: &mut [u8], at: usize) -> Tal
 // Lays FCS 16 behind a body.
 fn close(out: &mut [u8], t: Tally)
     requires { t.at + 2 ≤ length out.old }
-    ensures { out.new ≡ laid out.old t.at (t.sum ∷ (Format-as-ED ∷ [])) }
+    ensures { out.new ≡ laid out.old t.at (t.sum ∷ (format_ed ∷ [])) }
 {
     let at = t.at;
     out[at] = t.sum;
@@ -200,7 +200,7 @@ fn close(out: &mut [u8], t: Tally)
 fn lay_start(out: &mut [u8], n: u8) -> usize
     requires { 4 ≤ length out.old }
     ensures { Lays out.old 0
-        (pick (same n 3) (Format-as-SD1 ∷ []) (Format-as-SD2 ∷ (n ∷ (n ∷ (Format-as-SD2 ∷ []))))) 4 result out.new }
+        (pick (same n 3) (format_sd1 ∷ []) (format_sd2 ∷ (n ∷ (n ∷ (format_sd2 ∷ []))))) 4 result out.new }
 {
     if n == 3 {
         out[0] = SD1;
