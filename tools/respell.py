@@ -6,7 +6,7 @@ usage: tools/respell.py            at the top of the repository, once, right aft
 Words are written in snake case, so 'nextOf' becomes 'next_of', and a name with a middle dot is one word, so 'Ring·on'
 becomes 'ring_on'. Types, modules and names of Rust and C keep their spelling. The names are taken from the code of
 specs/, proofs/ and src/, comments and strings aside; they are then respelled there, in comments, in the must-fail
-edits and in the pages. Two names that would fall together in one file are printed and nothing is written.
+edits and in the pages. Two names that would fall together in one file are printed, and then no more is written.
 """
 
 import collections

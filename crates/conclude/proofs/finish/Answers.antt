@@ -11,11 +11,3 @@ choose-requires c =
 pub returns : goal.returns
 returns c =
     does-ended c.close-core.ensures _ c.choose.ensures
-
--- UNPLACED inline: c.close-core.auto.1.1.1.1.0
-
--- UNPLACED inline: c.close-core.auto.1.1.1.1.1.0
-
--- UNPLACED inline: c.close-core.auto.1.1.1.1.1.1.0
-
--- UNPLACED inline: c.close-core.auto.1.1.1.1.1.1.1.0

@@ -18,8 +18,7 @@ hear-requires c =
 
 pub returns : goal.returns
 returns c =
-    let start = c.before.before.before.before.before.before.before.before.before.before.before.before.before.before in
-    let a = start.args in
+    let a = c.args in
     rw
     (frame-granted _ _ _ _ _ _ _ _ _ _ a.out.now _ a.first.now a.second.now _
     c.refusal-refused.ensures c.if-refused-ne0.false) (c.hear.ensures.told _)
