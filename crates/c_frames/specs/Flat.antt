@@ -4,10 +4,10 @@ use Rattle.choice.specs.Choice.{pick, less, said}
 use Rattle.frame.specs.declared.Head.{Head}
 use Rattle.frame.specs.declared.Fields.{Fields}
 use Rattle.frame.specs.declared.Fields.TheVariants.{Token, Short, Frame}
-use Rattle.frame.specs.declared.Answer.{Answer}
-use Rattle.frame.specs.declared.Answer.TheVariants.{Refused, Read}
-use Rattle.frame.specs.declared.Written.{Written}
-use Rattle.frame.specs.declared.Written.TheVariants.{Refused as WrittenRefused, Count}
+use Rattle.frame.specs.Reading.{Answer}
+use Rattle.frame.specs.Reading.{Refused, Read}
+use Rattle.frame.specs.Format.{Written}
+use Rattle.frame.specs.Format.{Refused as WrittenRefused, Count}
 use Rattle.control.specs.Control.{fc, control_of, listed}
 use Rattle.frame.specs.Format.{written, left}
 use Rattle.frame.specs.Access.{NONE, access_of, point_of}

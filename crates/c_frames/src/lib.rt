@@ -3,12 +3,16 @@
 #![tactic(auto)]
 
 ghost use Rattle.std.specs.Prelude.{◌≡◌};
-ghost use Rattle.frame.specs.Reading.{read as reading_read};
+ghost use Rattle.refusal.specs.Refusal.{number};
+ghost use Rattle.frame.specs.Format.{wrote};
+ghost use Rattle.frame.specs.Reading.{Refused, Read, read as reading_read};
 ghost use Rattle.c_frames.specs.Flat.{flat as flat_flat, flat_written, unlisted as flat_unlisted, writes, leaves};
 
-use frame::{Address, Answer, Fields, Head, Part, Point, Written};
+use frame::{Address, Fields, Head, NONE, Part, Point};
+use refusal::Refusal;
 
 // What was read: refused is 0 or the refusal; form is 1 for a token, 2 for a short acknowledgement, 3 for a frame.
+// Kept: numbers in place of enums, here and below, since C takes them.
 #[repr(C)]
 #[derive(Clone, Copy)]
 pub struct FlatFrame {
@@ -31,137 +35,103 @@ pub struct FlatWritten {
     pub count: usize,
 }
 
-fn head(h: Head, p: Part) -> FlatFrame
-    ensures { result ≡ flat_flat (Answer.Read (Fields.Frame h) p) }
-{
-    let to = h.to;
-    let from = h.from;
-    let control = h.control;
-    FlatFrame {
-        refused: 0,
-        form: 3,
-        destination: h.destination.0,
-        to: frame::point_of(to),
-        source: h.source.0,
-        from: frame::point_of(from),
-        control: control::fc(control),
-        start: p.start,
-        count: p.count,
-    }
-}
-
-fn token(destination: Address, source: Address, p: Part) -> FlatFrame
-    ensures { result ≡ flat_flat (Answer.Read (Fields.Token destination source) p) }
-{
-    FlatFrame {
-        refused: 0,
-        form: 1,
-        destination: destination.0,
-        to: 255,
-        source: source.0,
-        from: 255,
-        control: 0,
-        start: p.start,
-        count: p.count,
-    }
-}
-
-fn short(p: Part) -> FlatFrame
-    ensures { result ≡ flat_flat (Answer.Read Fields.Short p) }
-{
-    FlatFrame {
-        refused: 0,
-        form: 2,
-        destination: 0,
-        to: 255,
-        source: 0,
-        from: 255,
-        control: 0,
-        start: p.start,
-        count: p.count,
-    }
-}
+// Nothing read.
+const NOTHING: FlatFrame = FlatFrame {
+    refused: 0,
+    form: 0,
+    destination: 0,
+    to: NONE,
+    source: 0,
+    from: NONE,
+    control: 0,
+    start: 0,
+    count: 0,
+};
 
 // A refused reading.
-pub fn refused(refused: u8) -> FlatFrame
-    ensures { result ≡ flat_flat (Answer.Refused refused) }
+#[tactic(auto, unfolding(crate::specs::Flat::flat))]
+pub fn refused(r: Refusal) -> FlatFrame
+    ensures { result ≡ flat_flat (Refused (number r)) }
 {
-    FlatFrame {
-        refused,
-        form: 0,
-        destination: 0,
-        to: 255,
-        source: 0,
-        from: 255,
-        control: 0,
-        start: 0,
-        count: 0,
-    }
+    let refused = r.number();
+    FlatFrame { refused, ..NOTHING }
 }
 
 // What was read, by its form.
+#[tactic(auto, unfolding(crate::specs::Flat::flat))]
 pub fn fields(f: Fields, p: Part) -> FlatFrame
-    ensures { result ≡ flat_flat (Answer.Read f p) }
+    ensures { result ≡ flat_flat (Read f p) }
 {
+    let read = FlatFrame {
+        start: p.start,
+        count: p.count,
+        ..NOTHING
+    };
     match f {
         Fields::Token {
             destination,
             source,
-        } => token(destination, source, p),
-        Fields::Short => short(p),
-        Fields::Frame(h) => head(h, p),
+        } => FlatFrame {
+            form: 1,
+            destination: destination.0,
+            source: source.0,
+            ..read
+        },
+        Fields::Short => FlatFrame { form: 2, ..read },
+        Fields::Frame(h) => FlatFrame {
+            form: 3,
+            destination: h.destination.0,
+            to: frame::point_of(h.to),
+            source: h.source.0,
+            from: frame::point_of(h.from),
+            control: control::fc(h.control),
+            ..read
+        },
     }
 }
 
 // An answer of the writer.
-pub fn written(w: Written) -> FlatWritten
-    ensures { result ≡ flat_written w }
+#[tactic(auto, unfolding(crate::specs::Flat::flat_written, frame::specs::Format::wrote))]
+pub fn written(w: Result<usize, Refusal>) -> FlatWritten
+    ensures { result ≡ flat_written (wrote w) }
 {
     match w {
-        Written::Refused(n) => FlatWritten {
-            refused: n,
-            count: 0,
-        },
-        Written::Count(n) => FlatWritten {
+        Ok(n) => FlatWritten {
             refused: 0,
             count: n,
+        },
+        Err(r) => FlatWritten {
+            refused: r.number(),
+            count: 0,
         },
     }
 }
 
 // The refusal of a frame whose FC is not listed: 8 goes before 9.
+#[tactic(auto, unfolding(choice::specs::Choice::pick, choice::specs::Choice::less, refusal::specs::Refusal::number, frame::specs::Format::wrote, crate::specs::Flat::flat_written, crate::specs::Flat::unlisted))]
 pub fn unlisted(destination: u8, source: u8) -> FlatWritten
     ensures { result ≡ flat_unlisted destination source }
 {
-    if 126 < source {
-        return FlatWritten {
-            refused: 8,
-            count: 0,
-        };
-    }
-    if 127 < destination {
-        return FlatWritten {
-            refused: 8,
-            count: 0,
-        };
-    }
-    FlatWritten {
-        refused: 9,
-        count: 0,
+    if 126 < source || 127 < destination {
+        written(Err(Refusal::Address))
+    } else {
+        written(Err(Refusal::Control))
     }
 }
 
 // Reads a frame.
+#[tactic(auto, unfolding(frame::specs::Reading::answered))]
 pub fn reading(octets: &[u8]) -> FlatFrame
     ensures { result ≡ flat_flat (reading_read octets.now) }
 {
     match read::read(octets) {
-        Answer::Refused(n) => refused(n),
-        Answer::Read(f, p) => fields(f, p),
+        Ok((f, p)) => fields(f, p),
+        Err(r) => refused(r),
     }
 }
 
 // Writes a frame with a control octet.
+#[tactic(auto, unfolding(choice::specs::Choice::pick, choice::specs::Choice::same, choice::specs::Choice::said, control::specs::Control::listed, crate::specs::Flat::head_from, crate::specs::Flat::writes, crate::specs::Flat::leaves))]
 pub fn writing(
     destination: u8,
     to: u8,

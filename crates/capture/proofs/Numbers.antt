@@ -11,8 +11,8 @@ use Rattle.choice.specs.Choice.{pick, less}
 use Rattle.choice.proofs.Rules.{by-pick, pick_true, pick-false, true-less, false-less}
 use Rattle.control.specs.Control.{fc}
 use Rattle.frame.specs.declared.Fields.TheVariants.{Token, Short, Frame}
-use Rattle.frame.specs.declared.Answer.{Answer}
-use Rattle.frame.specs.declared.Answer.TheVariants.{Refused, Read}
+use Rattle.frame.specs.Reading.{Answer}
+use Rattle.frame.specs.Reading.{Refused, Read}
 use Rattle.frame.specs.Reading.{part, head_of, body_refusal, answer, body_answer, read_body, read_sd2, plain}
 use Rattle.frame.specs.Reading.{read_token, read_short, read}
 use Rattle.frame_laws.specs.Terms.{Octets}

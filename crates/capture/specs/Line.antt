@@ -4,8 +4,8 @@ use Rattle.choice.specs.Choice.{pick, less}
 use Rattle.control.specs.declared.Control.{Control}
 use Rattle.control.specs.declared.Control.TheVariants.{Request, Reply}
 use Rattle.frame.specs.declared.Fields.TheVariants.{Token, Short, Frame}
-use Rattle.frame.specs.declared.Answer.{Answer}
-use Rattle.frame.specs.declared.Answer.TheVariants.{Refused, Read}
+use Rattle.frame.specs.Reading.{Answer}
+use Rattle.frame.specs.Reading.{Refused, Read}
 use Rattle.control.specs.Control.{fc}
 use Rattle.frame.specs.Reading.{read}
 

@@ -9,34 +9,43 @@ ghost use Rattle.capture.specs.Listing.{listed, left};
 
 mod line;
 
-const ROOM: usize = 139274;
+// How much of a capture its listing takes note of: 2 octets of count, 4096 entries of 5, 4096 bodies of 255, and one
+// octet more.
+pub const LONGEST: usize = 2 + 4096 * 5 + 4096 * 255 + 1;
+
+// Room for any listing: 34 octets a body, and the last line.
+pub const ROOM: usize = 34 * 4096 + 10;
 
 // How many bodies a capture announces.
+#[tactic(auto, unfolding(crate::specs::Listing::count_of))]
 fn count_of(s: &[u8]) -> usize
     requires { 2 ≤ length s.now }
     ensures { result ≡ count_of s.now }
 {
-    256 * frame::wide(s[0]) + frame::wide(s[1])
+    usize::from(u16::from_be_bytes([s[0], s[1]]))
 }
 
 // The length of body i.
+#[tactic(auto, unfolding(crate::specs::Listing::length_of))]
 fn length_of(s: &[u8], i: usize) -> usize
     requires { 5 * i + 7 ≤ length s.now }
     ensures value { result ≡ length_of s.now i }
     ensures upper_bound { result ≤ 255 }
 {
-    frame::wide(s[5 * i + 6])
+    usize::from(s[5 * i + 6])
 }
 
 // Lays the last line of a capture whose bodies end at a place.
+#[tactic(auto, unfolding(choice::specs::Choice::pick, choice::specs::Choice::less, crate::specs::Listing::last), using(crate::proofs::line::Steps::steps))]
 fn last(s: &[u8], at: usize, out: &mut [u8], w: usize) -> usize
     requires { w + 10 ≤ length out.old }
     ensures { Lays out.old w (listing_last s.now at) 10 result out.new }
 {
     if at < s.len() {
-        return laid::lay(b"end long\n", out, w);
+        laid::lay(b"end long\n", out, w)
+    } else {
+        laid::lay(b"end\n", out, w)
     }
-    laid::lay(b"end\n", out, w)
 }
 
 // Lays the last line of a capture that stopped early.
@@ -54,16 +63,14 @@ fn bodies(s: &[u8], count: usize, out: &mut [u8]) -> usize
         out.new }
 {
     let mut at = 5 * count + 2;
-    let mut i = 0;
     let mut w = 0;
-    while i < count {
+    for i in 0..count {
         let n = length_of(s, i);
         if s.len() - at < n {
             return cut(out, w);
         }
         w = line::line(i, read::part(s, at, n), out, w);
         at += n;
-        i += 1;
     }
     last(s, at, out, w)
 }

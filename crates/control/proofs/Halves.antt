@@ -45,13 +45,13 @@ within f (suc k) t n h =
     (λ (l : n < k). within f k (and_right (f k) (below f k) t) n l) (eq-or-lt_of_le (le_of_suc-le-suc h))
 
 right : ℕ → Bool
-right n = alike (by_halves n) (listed n)
+right n = alike (listed n) (by_halves n)
 
 computed : T (below right 256)
 unfolding right by_halves listed fc control_of service_of code_of type_of bit lawful replied requested numbered pick same
     less said
 computed = tt
 
-pub halves : (n : ℕ) → n < 256 → by_halves n ≡ listed n
+pub halves : (n : ℕ) → n < 256 → listed n ≡ by_halves n
 unfolding right
 halves n h = alike_same _ _ (within right 256 computed n h)

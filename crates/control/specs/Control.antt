@@ -1,6 +1,6 @@
 -- Document 01, "Frames": FC. Assumes nothing.
-use Rattle.std.specs.Prelude.{ℕ, ◌+◌, ◌*◌, ◌/◌, ◌%◌, Bool, true, false, not}
-use Rattle.choice.specs.Choice.{pick, less, same, both, either, said}
+use Rattle.std.specs.Prelude.{ℕ, ◌+◌, ◌*◌, ◌/◌, ◌%◌, Bool, true, false}
+use Rattle.choice.specs.Choice.{pick, same, said}
 use Rattle.control.specs.declared.Service.{Service}
 use Rattle.control.specs.declared.Service.TheVariants.{SdaLow, SdnLow, SdaHigh, SdnHigh, Status, SrdLow}
 use Rattle.control.specs.declared.Service.TheVariants.{SrdHigh, Ident, Lsap}

@@ -18,3 +18,5 @@ unfolding sum
 sum-set [] i y h = omega arith
 sum-set (x ∷ b) zero y h = omega arith
 sum-set (x ∷ b) (suc i) y h = omega (arith, sum-set b i y (omega arith))
+
+pub ruleset fcs_steps = (fcs-step)

@@ -1,13 +1,13 @@
 -- Document 01, "Frames": the octets of each form, and the fields that the writer refuses. Assumes nothing.
 use Rattle.std.specs.Prelude.{ℕ, ◌+◌, ◌%◌, Bool, true, false, List, [], ◌∷◌, ◌++◌, length, drop}
 use Rattle.choice.specs.Choice.{pick, less, same, said}
-use Rattle.frame.specs.declared.Access.{Access}
-use Rattle.frame.specs.declared.Access.TheVariants.{None, At}
+use Rattle.refusal.specs.declared.Refusal.{Refusal}
+use Rattle.refusal.specs.Refusal.{number}
+use Rattle.std.specs.Prelude.{Option, None, Some, Result, Ok, Err}
+use Rattle.frame.specs.declared.Point.{Point}
 use Rattle.frame.specs.declared.Head.{Head}
 use Rattle.frame.specs.declared.Fields.{Fields}
 use Rattle.frame.specs.declared.Fields.TheVariants.{Token, Short, Frame}
-use Rattle.frame.specs.declared.Written.{Written}
-use Rattle.frame.specs.declared.Written.TheVariants.{Refused, Count}
 use Rattle.control.specs.Control.{fc, listed, sdn}
 
 -- the start octets, and the end
@@ -38,14 +38,14 @@ unfoldable pub fcs : List ℕ → ℕ
 fcs b = sum b % 256
 
 -- "bit 0x80 announces an extension octet"
-unfoldable pub announce : Access → ℕ
+unfoldable pub announce : Option Point → ℕ
 announce None = 0
-announce (At p) = 0x80
+announce (Some p) = 0x80
 
 -- the extension octet of an access point: the point
-unfoldable pub extension : Access → List ℕ
+unfoldable pub extension : Option Point → List ℕ
 extension None = []
-extension (At p) = p.0 ∷ []
+extension (Some p) = p.0 ∷ []
 
 -- "The unit begins with the destination access point octet if DA announces one, then the source one if SA does, then
 -- data"
@@ -53,7 +53,7 @@ unfoldable pub unit : Head → List ℕ → List ℕ
 unit h x = extension h.to ++ (extension h.from ++ x)
 
 -- DA or SA: the address, and 0x80 if an extension octet follows
-unfoldable pub addressed : ℕ → Access → ℕ
+unfoldable pub addressed : ℕ → Option Point → ℕ
 addressed n a = n + announce a
 
 -- DA SA FC unit
@@ -87,9 +87,9 @@ octets Short x = SC ∷ []
 octets (Frame h) x = framed (body h x)
 
 -- an access point over the greatest number that its side may have
-unfoldable pub outside : Access → ℕ → Bool
+unfoldable pub outside : Option Point → ℕ → Bool
 outside None most = false
-outside (At p) most = pick (less most p.0) true false
+outside (Some p) most = pick (less most p.0) true false
 
 -- 11: "DA address 127 on anything but SDN"
 unfoldable pub misdirected : ℕ → ℕ → Bool
@@ -122,7 +122,16 @@ unfoldable pub refused : Fields → List ℕ → List ℕ → ℕ
 refused f x out =
     pick (same (unwritable f x) 0) (pick (less (length out) (length (octets f x))) 13 0) (unwritable f x)
 
--- what the writer answers: the refusal, or the count of the frame's octets
+-- what writing gives: the number of the refusal, or the count of the frame's octets
+pub data Written : Type 0 where
+  Refused : ℕ → Written
+  Count : ℕ → Written
+
+-- the same as the writer answers it
+unfoldable pub wrote : Result ℕ Refusal → Written
+wrote (Ok n) = Count n
+wrote (Err r) = Refused (number r)
+
 unfoldable pub written : Fields → List ℕ → List ℕ → Written
 written f x out = pick (same (refused f x out) 0) (Count (length (octets f x))) (Refused (refused f x out))
 

@@ -1,17 +1,27 @@
 -- Document 01, "Frames": the fields of a string of octets, or its refusal, first match in the table's order. SD1, SD2
 -- and SD3 share what is said of a body: DA SA FC unit. Assumes nothing.
-use Rattle.std.specs.Prelude.{ℕ, ◌+◌, ◌-◌, ◌%◌, Bool, true, false, List, [], ◌∷◌, length, take, drop, slice_index}
+use Rattle.std.specs.Prelude.{ℕ, ◌+◌, ◌-◌, ◌%◌, Bool, true, false, List, length, take, drop, slice_index}
 use Rattle.choice.specs.Choice.{pick, less, same, said}
-use Rattle.frame.specs.declared.Access.{Access}
-use Rattle.frame.specs.declared.Access.TheVariants.{None, At}
+use Rattle.refusal.specs.declared.Refusal.{Refusal}
+use Rattle.refusal.specs.Refusal.{number}
+use Rattle.std.specs.Prelude.{Option, None, Some, Result, Ok, Err}
+use Rattle.frame.specs.declared.Point.{Point}
 use Rattle.frame.specs.declared.Head.{Head}
 use Rattle.frame.specs.declared.Part.{Part}
 use Rattle.frame.specs.declared.Fields.{Fields}
 use Rattle.frame.specs.declared.Fields.TheVariants.{Token, Short, Frame}
-use Rattle.frame.specs.declared.Answer.{Answer}
-use Rattle.frame.specs.declared.Answer.TheVariants.{Refused, Read}
 use Rattle.control.specs.Control.{control_of, listed}
 use Rattle.frame.specs.Format.{SD1, SD2, SD3, SD4, SC, ED, fcs, misdirected}
+
+-- what reading gives: the number of the refusal, or the fields and where the data lie
+pub data Answer : Type 0 where
+  Refused : ℕ → Answer
+  Read : Fields → Part → Answer
+
+-- the same as the reader answers it
+unfoldable pub answered : Result (Fields × Part) Refusal → Answer
+answered (Ok r) = Read r.0 r.1
+answered (Err r) = Refused (number r)
 
 -- the octet at a place, 0 past the end
 abbrev pub octet : List ℕ → ℕ → ℕ
@@ -26,8 +36,8 @@ unfoldable pub extensions : ℕ → ℕ
 extensions a = pick (less 127 a) 1 0
 
 -- the access point of an address octet, whose extension octet stands at a place of the body
-unfoldable pub access_of : List ℕ → ℕ → ℕ → Access
-access_of b a i = pick (less 127 a) (At (record { 0 = octet b i })) None
+unfoldable pub access_of : List ℕ → ℕ → ℕ → Option Point
+access_of b a i = pick (less 127 a) (Some (record { 0 = octet b i })) None
 
 -- where a body's data begin
 unfoldable pub data_at : List ℕ → ℕ

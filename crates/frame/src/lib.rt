@@ -8,36 +8,42 @@ ghost use Rattle.frame.specs.Format.{fcs as format_fcs, misdirected as format_mi
 
 use control::Control;
 
+// The start octets, and the end.
+pub const SD1: u8 = 0x10;
+
+pub const SD2: u8 = 0x68;
+
+pub const SD3: u8 = 0xA2;
+
+pub const SD4: u8 = 0xDC;
+
+pub const SC: u8 = 0xE5;
+
+pub const ED: u8 = 0x16;
+
 // A station address: 0..126, and 127 for all.
-#[derive(Clone, Copy)]
+#[derive(Clone, Copy, Debug, PartialEq, Eq)]
 pub struct Address(pub u8);
 
 // An access point number.
-#[derive(Clone, Copy)]
+#[derive(Clone, Copy, Debug, PartialEq, Eq)]
 pub struct Point(pub u8);
-
-// The access point of one side of a frame, or none.
-#[derive(Clone, Copy)]
-pub enum Access {
-    None,
-    At(Point),
-}
 
 // The number that stands for no access point, where one number stands for a point or for none.
 pub const NONE: u8 = 255;
 
 // The fields of a frame that has a control octet, but for its data.
-#[derive(Clone, Copy)]
+#[derive(Clone, Copy, Debug, PartialEq, Eq)]
 pub struct Head {
     pub destination: Address,
-    pub to: Access,
+    pub to: Option<Point>,
     pub source: Address,
-    pub from: Access,
+    pub from: Option<Point>,
     pub control: Control,
 }
 
 // The fields of a frame of any form, but for its data.
-#[derive(Clone, Copy)]
+#[derive(Clone, Copy, Debug, PartialEq, Eq)]
 pub enum Fields {
     Token {
         destination: Address,
@@ -48,74 +54,43 @@ pub enum Fields {
 }
 
 // Where a frame's data lie in the string that was read.
-#[derive(Clone, Copy)]
+#[derive(Clone, Copy, Debug, PartialEq, Eq)]
 pub struct Part {
     pub start: usize,
     pub count: usize,
 }
 
-// What reading a string of octets gives: the refusal, or the fields and where the data lie.
-#[derive(Clone, Copy)]
-pub enum Answer {
-    Refused(u8),
-    Read(Fields, Part),
-}
-
-// What writing a frame gives: the refusal, or the count of the octets written.
-#[derive(Clone, Copy)]
-pub enum Written {
-    Refused(u8),
-    Count(usize),
-}
-
 // Whether a frame to an address is for all, and no SDN.
+#[tactic(auto, unfolding(choice::specs::Choice::pick, choice::specs::Choice::same, choice::specs::Choice::said, crate::specs::Format::misdirected))]
 pub fn misdirected(address: u8, control: u8) -> bool
     ensures { result ≡ format_misdirected address control }
 {
-    if address == 127 {
-        if control::sdn(control) {
-            return false;
-        }
-        return true;
-    }
-    false
-}
-
-// An octet as a count or a place.
-pub fn wide(x: u8) -> usize
-    ensures { (result ≡ x) × (result ≤ 255) }
-{
-    x as usize
+    address == 127 && !control::sdn(control)
 }
 
 // The checksum of a frame's body.
+#[tactic(auto, unfolding(crate::specs::Format::fcs, crate::specs::Format::sum), using(crate::proofs::Sum::fcs_steps))]
 pub fn fcs(body: &[u8]) -> u8
     ensures { result ≡ format_fcs body.now }
 {
-    let mut sum = 0;
-    let mut i = 0;
-    while i < body.len() {
-        sum = std::num::wrapping_add_u8(sum, body[i]);
-        i += 1;
+    let mut sum: u8 = 0;
+    for octet in body {
+        sum = sum.wrapping_add(*octet);
     }
     sum
 }
 
 // The access point of a number, and the number of an access point.
-pub fn access_of(p: Point) -> Access
+#[tactic(auto, unfolding(choice::specs::Choice::pick, choice::specs::Choice::same, crate::specs::Access::access_of))]
+pub fn access_of(p: Point) -> Option<Point>
     ensures { result ≡ access_of p.0 }
 {
-    if p.0 == NONE {
-        return Access::None;
-    }
-    Access::At(p)
+    if p.0 == NONE { None } else { Some(p) }
 }
 
-pub fn point_of(a: Access) -> u8
+#[tactic(auto, unfolding(crate::specs::Access::point_of))]
+pub fn point_of(a: Option<Point>) -> u8
     ensures { result ≡ point_of a }
 {
-    match a {
-        Access::None => NONE,
-        Access::At(p) => p.0,
-    }
+    a.map_or(NONE, |p| p.0)
 }

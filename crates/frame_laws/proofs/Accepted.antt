@@ -12,7 +12,7 @@ use Rattle.frame.specs.declared.Address.{Address}
 use Rattle.frame.specs.declared.Part.{Part}
 use Rattle.frame.specs.declared.Fields.{Fields}
 use Rattle.frame.specs.declared.Fields.TheVariants.{Token, Short, Frame}
-use Rattle.frame.specs.declared.Answer.TheVariants.{Read}
+use Rattle.frame.specs.Reading.{Read}
 use Rattle.frame.specs.Format.{SD1, SD2, SD3, SD4, SC, closing, sd1, sd2, sd3, body, octets, unwritable}
 use Rattle.frame.specs.Format.{unwritable_token}
 use Rattle.frame.specs.Reading.{octet, part, data_at, head_of, answer, body_answer, read_body, mismeasured, read_sd2}

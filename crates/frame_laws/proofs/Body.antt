@@ -12,8 +12,8 @@ use lib.Seq.{get_or-drop, drop-drop, drop-append_seam, drop-cons}
 use Rattle.choice.specs.Choice.{pick, less}
 use Rattle.choice.proofs.Rules.{less-true, less-false, true-less, false-less, true_same, false_same, pick_true}
 use Rattle.choice.proofs.Rules.{pick-false, unless-less, unless-same, asked-true, asked-false, passed, held, is_said}
-use Rattle.frame.specs.declared.Access.{Access}
-use Rattle.frame.specs.declared.Access.TheVariants.{None, At}
+use Rattle.std.specs.Prelude.{Option, None, Some}
+use Rattle.frame.specs.declared.Point.{Point}
 use Rattle.frame.specs.declared.Head.{Head}
 use Rattle.control.specs.Control.{fc, listed}
 use Rattle.frame.specs.Format.{announce, extension, unit, addressed, body, outside, misdirected, unwritable_frame}
@@ -23,20 +23,20 @@ use Rattle.frame_laws.proofs.Cases.{taken, both_ways, true-is-false}
 use Rattle.control.proofs.Octet.{control-again, listed-again}
 
 -- ---- one side of a head as written: the address octet `addressed n a`, and its extension at place i of the body b
-address-again : (n : ℕ) (a : Access) → n < 128 → addressed n a % 128 ≡ n
+address-again : (n : ℕ) (a : Option Point) → n < 128 → addressed n a % 128 ≡ n
 unfolding addressed announce
 address-again n None h = omega arith
-address-again n (At p) h = omega arith
+address-again n (Some p) h = omega arith
 
-extensions-written : (n : ℕ) (a : Access) → n < 128 → extensions (addressed n a) ≡ length (extension a)
+extensions-written : (n : ℕ) (a : Option Point) → n < 128 → extensions (addressed n a) ≡ length (extension a)
 unfolding extensions addressed announce extension
 extensions-written n None h = pick-false _ _ (less-false (omega arith))
-extensions-written n (At p) h = pick_true _ _ (less-true (omega arith))
+extensions-written n (Some p) h = pick_true _ _ (less-true (omega arith))
 
-unannounced : (n : ℕ) (a : Access) → n < 128 → length (extension a) ≡ 0 → less 127 (addressed n a) ≡ false
+unannounced : (n : ℕ) (a : Option Point) → n < 128 → length (extension a) ≡ 0 → less 127 (addressed n a) ≡ false
 unfolding addressed announce extension
 unannounced n None h e = less-false (omega arith)
-unannounced n (At p) h e = absurd (omega arith)
+unannounced n (Some p) h e = absurd (omega arith)
 
 octet-there : (b : List ℕ) (i p : ℕ) (r : List ℕ) → drop i b ≡ p ∷ r → octet b i ≡ p
 octet-there b i p r e = rw add-zero at (sym (get_or-drop i b 0 0)) ∙ rw e
@@ -44,22 +44,22 @@ octet-there b i p r e = rw add-zero at (sym (get_or-drop i b 0 0)) ∙ rw e
 place-there : (b : List ℕ) (i p : ℕ) (r : List ℕ) → drop i b ≡ p ∷ r → i < length b
 place-there b i p r e = omega (arith, length-drop i b, ap length e)
 
-access-again : (b : List ℕ) (n : ℕ) (a : Access) (i : ℕ) (r : List ℕ) → n < 128 → drop i b ≡ extension a ++ r
+access-again : (b : List ℕ) (n : ℕ) (a : Option Point) (i : ℕ) (r : List ℕ) → n < 128 → drop i b ≡ extension a ++ r
     → access_of b (addressed n a) i ≡ a
 unfolding access_of addressed announce extension
 access-again b n None i r h e = pick-false _ _ (less-false (omega arith))
-access-again b n (At p) i r h e = pick_true _ _ (less-true (omega arith)) ∙ rw (octet-there b i p.0 r e)
+access-again b n (Some p) i r h e = pick_true _ _ (less-true (omega arith)) ∙ rw (octet-there b i p.0 r e)
 
-named-written : (b : List ℕ) (n : ℕ) (a : Access) (i most : ℕ) (r : List ℕ) → n < 128 → drop i b ≡ extension a ++ r
+named-written : (b : List ℕ) (n : ℕ) (a : Option Point) (i most : ℕ) (r : List ℕ) → n < 128 → drop i b ≡ extension a ++ r
     → outside a most ≡ false → misnamed b (addressed n a) i most ≡ false
 unfolding misnamed addressed announce extension outside
 named-written b n None i most r h e o = pick-false _ _ (less-false (omega arith))
-named-written b n (At p) i most r h e o =
+named-written b n (Some p) i most r h e o =
     pick_true _ _ (less-true (omega arith))
     ∙ (pick_true _ _ (less-true (place-there b i p.0 r e))
     ∙ rw (octet-there b i p.0 r e) o)
 
-rest-written : (b : List ℕ) (n : ℕ) (a : Access) (i : ℕ) (r : List ℕ) → n < 128 → drop i b ≡ extension a ++ r
+rest-written : (b : List ℕ) (n : ℕ) (a : Option Point) (i : ℕ) (r : List ℕ) → n < 128 → drop i b ≡ extension a ++ r
     → drop (i + extensions (addressed n a)) b ≡ r
 rest-written b n a i r h e =
     rw (extensions-written n a h, ← drop-drop (length (extension a)) i b, e) (drop-append_seam (extension a) r)
@@ -149,7 +149,7 @@ module _ (h : Head) (x : List ℕ) (w : Writable h (length (unit h x))) where
 
 -- ---- one side of a head as read: the address octet a, and its extension, if it announces one, at place i of the body b
 -- the access point read, and the n octets from place i that hold it
-record Named (b : List ℕ) (access : Access) (n i most : ℕ) : Type 0 where
+record Named (b : List ℕ) (access : Option Point) (n i most : ℕ) : Type 0 where
   there : drop i b ≡ extension access ++ drop (i + n) b
   within : i + n ≤ length b
   inside : outside access most ≡ false
@@ -161,7 +161,7 @@ named b a i most h e = by (less 127 a) e
   where
     by : (t : Bool)
         → pick t (pick (less i (length b)) (pick (less most (octet b i)) true false) true) false ≡ false
-        → Named b (pick t (At (record { 0 = octet b i })) None) (pick t 1 0) i most
+        → Named b (pick t (Some (record { 0 = octet b i })) None) (pick t 1 0) i most
     by true e =
         let f = taken (less i (length b)) (pick (less most (octet b i)) true false) true true-is-false e in
         let g = true-less i (length b) f.0 in
@@ -172,7 +172,7 @@ address_read : (b : List ℕ) (a i : ℕ) → a < 256 → addressed (a % 128) (a
 unfolding access_of addressed announce pick
 address_read b a i h = by (less 127 a) refl
   where
-    by : (t : Bool) → less 127 a ≡ t → addressed (a % 128) (pick t (At (record { 0 = octet b i })) None) ≡ a
+    by : (t : Bool) → less 127 a ≡ t → addressed (a % 128) (pick t (Some (record { 0 = octet b i })) None) ≡ a
     by true e = omega (arith, true-less 127 a e)
     by false e = omega (arith, false-less 127 a e)
 

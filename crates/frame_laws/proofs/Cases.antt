@@ -6,7 +6,7 @@ use native.Mathlib.Omega.{arith}
 use Rattle.choice.specs.Choice.{pick}
 use Rattle.frame.specs.declared.Fields.{Fields}
 use Rattle.frame.specs.declared.Part.{Part}
-use Rattle.frame.specs.declared.Answer.TheVariants.{Refused, Read}
+use Rattle.frame.specs.Reading.{Refused, Read}
 
 -- the second has another outcome, or the first
 pub taken : {A : Type 0} (b : Bool) (x y : A) {z : A} → (y ≡ z → ⊥) → pick b x y ≡ z → (b ≡ true) × (x ≡ z)

@@ -12,8 +12,8 @@ use lib.Seq.{set-append_left, get_or-append-add}
 use Rattle.choice.specs.Choice.{pick, same}
 use Rattle.choice.proofs.Rules.{same_true, same_false, false_same, pick_true, pick-false}
 use Rattle.frame.specs.declared.Fields.{Fields}
-use Rattle.frame.specs.declared.Answer.{Answer}
-use Rattle.frame.specs.declared.Answer.TheVariants.{Refused}
+use Rattle.frame.specs.Reading.{Answer}
+use Rattle.frame.specs.Reading.{Refused}
 use Rattle.frame.specs.Format.{SD1, SD2, SD3, SD4, SC, ED, sum, fcs, closing, sd1, sd2, sd3}
 use Rattle.frame.specs.Reading.{octet, read_body, mismeasured, read, refusal}
 use Rattle.frame.proofs.Sum.{sum-set}

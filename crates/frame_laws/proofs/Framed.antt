@@ -15,7 +15,7 @@ use Rattle.choice.proofs.Rules.{same_true, same_false, pick_true, pick-false, if
 use Rattle.choice.proofs.Rules.{asked-true, asked-false}
 use Rattle.frame.specs.declared.Part.{Part}
 use Rattle.frame.specs.declared.Fields.TheVariants.{Token, Short, Frame}
-use Rattle.frame.specs.declared.Answer.TheVariants.{Refused, Read}
+use Rattle.frame.specs.Reading.{Refused, Read}
 use Rattle.frame.specs.Format.{SD1, SD2, SD3, SD4, SC, ED, fcs, closing, sd1, sd2, framed}
 use Rattle.frame.specs.Reading.{octet, part, data_at, head_of, body_refusal, answer, body_answer, read_body, mismeasured}
 use Rattle.frame.specs.Reading.{read_sd2, plain, read_token, read_short, read, shown}

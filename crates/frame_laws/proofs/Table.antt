@@ -15,8 +15,8 @@ use Rattle.choice.specs.Choice.{pick, less, same, said}
 use Rattle.choice.proofs.Rules.{true_same, false-less, is_said}
 use Rattle.frame.specs.declared.Part.{Part}
 use Rattle.frame.specs.declared.Fields.{Fields}
-use Rattle.frame.specs.declared.Answer.{Answer}
-use Rattle.frame.specs.declared.Answer.TheVariants.{Refused}
+use Rattle.frame.specs.Reading.{Answer}
+use Rattle.frame.specs.Reading.{Refused}
 use Rattle.control.specs.Control.{listed}
 use Rattle.frame.specs.Format.{SD1, SD2, SD3, SD4, SC, ED, fcs, misdirected}
 use Rattle.frame.specs.Reading.{octet, part, extensions, extended, misnamed, body_refusal, answer, body_answer}

@@ -12,10 +12,10 @@ use Rattle.choice.proofs.Rules.{passed, false-less}
 use Rattle.frame.specs.declared.Part.{Part}
 use Rattle.frame.specs.declared.Fields.{Fields}
 use Rattle.frame.specs.declared.Fields.TheVariants.{Token, Short, Frame}
-use Rattle.frame.specs.declared.Answer.{Answer}
-use Rattle.frame.specs.declared.Answer.TheVariants.{Read}
-use Rattle.frame.specs.declared.Written.{Written}
-use Rattle.frame.specs.declared.Written.TheVariants.{Refused, Count}
+use Rattle.frame.specs.Reading.{Answer}
+use Rattle.frame.specs.Reading.{Read}
+use Rattle.frame.specs.Format.{Written}
+use Rattle.frame.specs.Format.{Refused, Count}
 use Rattle.frame.specs.Format.{octets, unit, body, sd2, unwritable, unwritable_token, refused, written, left, SD2, SD3}
 use Rattle.frame.specs.Reading.{read, plain, refusal, shown, octet}
 use Rattle.frame_laws.specs.Terms.{Octets, carried, flip, Summed, Twins}

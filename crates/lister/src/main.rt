@@ -7,25 +7,22 @@ ghost use Rattle.std.specs.Prelude.{◌≡◌, ◌<◌, ◌≤◌, length, take,
 ghost use Rattle.std.specs.Io.KnownBytes.{Appends, Consumes, IsAtEnd};
 ghost use Rattle.capture.specs.Listing.{LONGEST as listing_longest, ROOM as listing_room, listing};
 
+use capture::{LONGEST, ROOM};
 use std::io;
 use std::io::{Read, Write};
 
-// 2 octets of count, 4096 entries of 5, 4096 bodies of 255, and one octet more.
-const LONGEST: usize = 1064963;
-
-const ROOM: usize = 139274;
-
 // The buffers: as much of a capture as its listing takes note of, and room for any listing.
-fn longest() -> [u8; 1064963]
+// Kept: functions of their own, as the proof of `list` ran out of stack with `[0; LONGEST]` in its body.
+fn longest() -> [u8; LONGEST]
     ensures { length result ≡ listing_longest }
 {
-    [0; 1064963]
+    [0; LONGEST]
 }
 
-fn room() -> [u8; 139274]
+fn room() -> [u8; ROOM]
     ensures { length result ≡ listing_room }
 {
-    [0; 139274]
+    [0; ROOM]
 }
 
 // Reads till a buffer is full or the input ends, and gives how many octets of the buffer were read.
@@ -47,12 +44,10 @@ fn read_full<R: Read>(input: &mut R, octets: &mut [u8]) -> io::Result<usize>
 
 // Reads on by way of a spare buffer, till the input ends.
 fn read_on<R: Read>(input: &mut R, spare: &mut [u8]) -> io::Result<()> {
-    let mut left: u64 = 18446744073709551615;
-    while 0 < left {
+    for _ in 0..u64::MAX {
         if input.read(spare)? == 0 {
-            return Ok(());
+            break;
         }
-        left -= 1;
     }
     Ok(())
 }

@@ -17,3 +17,5 @@ measured le false false r p q e = (false-less le 4 p, false-less 249 le q)
 pub mismeasured-within : (le repeat fourth : ℕ) → mismeasured le repeat fourth ≡ false → (4 ≤ le) × (le ≤ 249)
 unfolding mismeasured
 mismeasured-within le repeat fourth e = measured le (less le 4) (less 249 le) _ refl refl e
+
+pub ruleset measures = (mismeasured-within)

@@ -1,35 +1,33 @@
 // A frame's body, DA SA FC unit: its fields and where its data lie, or the first refusal of 8..11. Where the body
 // stands and that its checksum holds is left to the reader. The definitions are those of control and frame.
 // Assumes nothing.
+#![tactic(auto, unfolding(choice::specs::Choice::pick, choice::specs::Choice::less, choice::specs::Choice::same, choice::specs::Choice::said, refusal::specs::Refusal::refused, refusal::specs::Refusal::number, frame::specs::Reading::answered, frame::specs::Reading::extensions, frame::specs::Reading::access_of, frame::specs::Reading::data_at, frame::specs::Reading::head_of, frame::specs::Reading::extended, frame::specs::Reading::misnamed, frame::specs::Reading::body_refusal, frame::specs::Reading::body_answer, frame::specs::Reading::answer), using(crate::proofs::body::Within::lies_within))]
+
 ghost use Rattle.std.specs.Prelude.{◌≡◌, ◌+◌, ◌≤◌, length};
 ghost use Rattle.control.specs.Control.{control_of};
-ghost use Rattle.frame.specs.Reading.{octet, access_of, data_at, head_of, body_refusal, body_answer};
+ghost use Rattle.frame.specs.Reading.{octet, access_of, data_at, head_of, body_refusal, body_answer, answered};
 ghost use Rattle.frame.specs.Reading.{extensions as reading_extensions, extended as reading_extended};
 ghost use Rattle.frame.specs.Reading.{misnamed as reading_misnamed};
+ghost use Rattle.refusal.specs.Refusal.{refused};
 
 use control::Control;
-use frame::{Access, Address, Answer, Fields, Head, Part, Point};
+use frame::{Address, Fields, Head, Part, Point};
+use refusal::Refusal;
 
 // How many extension octets an address octet announces.
 fn extensions(a: u8) -> usize
     ensures value { result ≡ reading_extensions a }
     ensures upper_bound { result ≤ 1 }
 {
-    if 127 < a {
-        return 1;
-    }
-    0
+    usize::from(127 < a)
 }
 
 // The access point that an address octet announces at a place of the body, where its octet is not missing.
-fn access_of(b: &[u8], a: u8, i: usize) -> Access
+fn access_of(b: &[u8], a: u8, i: usize) -> Option<Point>
     requires { i + reading_extensions a ≤ length b.now }
     ensures { result ≡ access_of b.now a i }
 {
-    if 127 < a {
-        return Access::At(Point(b[i]));
-    }
-    Access::None
+    if 127 < a { Some(Point(b[i])) } else { None }
 }
 
 // Where a body's data begin.
@@ -64,32 +62,14 @@ fn head_of(b: &[u8], control: Control) -> Head
 fn extended(b: &[u8]) -> bool
     ensures { result ≡ reading_extended b.now }
 {
-    if b.len() == 3 {
-        if 127 < b[0] {
-            return true;
-        }
-        if 127 < b[1] {
-            return true;
-        }
-        return false;
-    }
-    false
+    b.len() == 3 && (127 < b[0] || 127 < b[1])
 }
 
 // Whether the extension octet that an address octet announces is missing or out of range.
 fn misnamed(b: &[u8], a: u8, i: usize, most: u8) -> bool
     ensures { result ≡ reading_misnamed b.now a i most }
 {
-    if 127 < a {
-        if i < b.len() {
-            if most < b[i] {
-                return true;
-            }
-            return false;
-        }
-        return true;
-    }
-    false
+    127 < a && (b.len() <= i || most < b[i])
 }
 
 // The same of the source's, which stands behind the destination's.
@@ -99,51 +79,40 @@ fn source_misnamed(b: &[u8], d: u8, s: u8) -> bool
     misnamed(b, s, 3 + extensions(d), 62)
 }
 
-// The refusal 8..11 of a body, or 0.
-fn body_refusal(b: &[u8]) -> u8
+// The refusal 8..11 of a body, if one is due.
+fn body_refusal(b: &[u8]) -> Result<(), Refusal>
     requires { 3 ≤ length b.now }
-    ensures { result ≡ body_refusal b.now }
+    ensures { refused result ≡ body_refusal b.now }
 {
     let d = b[0];
     let s = b[1];
     let control = b[2];
-    if s % 128 == 127 {
-        return 8;
-    }
-    if extended(b) {
-        return 8;
+    if s % 128 == 127 || extended(b) {
+        return Err(Refusal::Address);
     }
     if !control::listed(control) {
-        return 9;
+        return Err(Refusal::Control);
     }
-    if misnamed(b, d, 3, 63) {
-        return 10;
-    }
-    if source_misnamed(b, d, s) {
-        return 10;
+    if misnamed(b, d, 3, 63) || source_misnamed(b, d, s) {
+        return Err(Refusal::Point);
     }
     if frame::misdirected(d % 128, control) {
-        return 11;
+        return Err(Refusal::ToAll);
     }
-    0
+    Ok(())
 }
 
 // A body that stands at a place of the string, when its checksum holds.
-pub fn body_answer(b: &[u8], start: usize) -> Answer
+pub fn body_answer(b: &[u8], start: usize) -> Result<(Fields, Part), Refusal>
     requires { (3 ≤ length b.now) × (start ≤ 4) }
-    ensures { result ≡ body_answer b.now start }
+    ensures { answered result ≡ body_answer b.now start }
 {
-    let refused = body_refusal(b);
-    if refused != 0 {
-        return Answer::Refused(refused);
-    }
-    let control = control::control_of(b[2]);
+    body_refusal(b)?;
+    let head = head_of(b, control::control_of(b[2]));
     let at = data_at(b);
-    Answer::Read(
-        Fields::Frame(head_of(b, control)),
-        Part {
-            start: start + at,
-            count: b.len() - at,
-        },
-    )
+    let part = Part {
+        start: start + at,
+        count: b.len() - at,
+    };
+    Ok((Fields::Frame(head), part))
 }

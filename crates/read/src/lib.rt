@@ -1,26 +1,15 @@
 // The frame reader: the fields of a string of octets and where its data lie, or the first refusal of 1..11. Total on
 // every string. The definitions are the frame crate's. Assumes nothing.
-#![tactic(auto)]
+#![tactic(auto, unfolding(choice::specs::Choice::pick, choice::specs::Choice::less, choice::specs::Choice::same, choice::specs::Choice::said, refusal::specs::Refusal::number, frame::specs::Reading::answered, frame::specs::Reading::read, frame::specs::Reading::read_sd2, frame::specs::Reading::read_short, frame::specs::Reading::read_token, frame::specs::Reading::mismeasured, frame::specs::Reading::plain), using(crate::proofs::Measured::measures))]
 
 ghost use Rattle.std.specs.Prelude.{◌≡◌, ◌+◌, ◌≤◌, length};
-ghost use Rattle.frame.specs.Reading.{read_body, read_token, read_short};
+ghost use Rattle.frame.specs.Reading.{answered, read_body, read_token};
 ghost use Rattle.frame.specs.Reading.{part as reading_part, mismeasured as reading_mismeasured, read as reading_read};
 
 mod body;
 
-use frame::{Address, Answer, Fields, Part};
-
-const SD1: u8 = 0x10;
-
-const SD2: u8 = 0x68;
-
-const SD3: u8 = 0xA2;
-
-const SD4: u8 = 0xDC;
-
-const SC: u8 = 0xE5;
-
-const ED: u8 = 0x16;
+use frame::{Address, ED, Fields, Part, SC, SD1, SD2, SD3, SD4};
+use refusal::Refusal;
 
 // The octets from a place on, count of them or as many as there are, as a part of the caller's string.
 pub fn part(s: &[u8], start: usize, count: usize) -> &[u8]
@@ -36,20 +25,21 @@ pub fn part(s: &[u8], start: usize, count: usize) -> &[u8]
 }
 
 // A frame whose body is the n octets from a place.
-fn read_body(s: &[u8], start: usize, n: usize) -> Answer
+#[tactic(auto, unfolding(choice::specs::Choice::pick, choice::specs::Choice::same, refusal::specs::Refusal::number, frame::specs::Reading::answered, frame::specs::Reading::read_body))]
+fn read_body(s: &[u8], start: usize, n: usize) -> Result<(Fields, Part), Refusal>
     requires { (start ≤ 4) × (3 ≤ n) × (n ≤ 255) }
-    ensures { result ≡ read_body s.now start n }
+    ensures { answered result ≡ read_body s.now start n }
 {
     let end = start + n;
     if s.len() != end + 2 {
-        return Answer::Refused(5);
+        return Err(Refusal::Count);
     }
     if s[end + 1] != ED {
-        return Answer::Refused(6);
+        return Err(Refusal::End);
     }
     let b = part(s, start, n);
     if s[end] != frame::fcs(b) {
-        return Answer::Refused(7);
+        return Err(Refusal::Checksum);
     }
     body::body_answer(b, start)
 }
@@ -58,85 +48,44 @@ fn read_body(s: &[u8], start: usize, n: usize) -> Answer
 fn mismeasured(le: u8, repeat: u8, fourth: u8) -> bool
     ensures { result ≡ reading_mismeasured le repeat fourth }
 {
-    if le < 4 {
-        return true;
-    }
-    if 249 < le {
-        return true;
-    }
-    if le == repeat {
-        if fourth == SD2 {
-            return false;
-        }
-        return true;
-    }
-    true
+    !matches!(le, 4..=249) || le != repeat || fourth != SD2
 }
 
-fn read_token(s: &[u8]) -> Answer
-    ensures { result ≡ read_token s.now }
+fn read_token(s: &[u8]) -> Result<(Fields, Part), Refusal>
+    ensures { answered result ≡ read_token s.now }
 {
-    if s.len() != 3 {
-        return Answer::Refused(5);
+    let &[_, d, a] = s else {
+        return Err(Refusal::Count);
+    };
+    if 126 < d || 126 < a {
+        return Err(Refusal::Address);
     }
-    let d = s[1];
-    let a = s[2];
-    if 126 < d {
-        return Answer::Refused(8);
-    }
-    if 126 < a {
-        return Answer::Refused(8);
-    }
-    Answer::Read(
-        Fields::Token {
-            destination: Address(d),
-            source: Address(a),
-        },
-        Part { start: 0, count: 0 },
-    )
-}
-
-fn read_short(s: &[u8]) -> Answer
-    ensures { result ≡ read_short s.now }
-{
-    if s.len() != 1 {
-        return Answer::Refused(5);
-    }
-    Answer::Read(Fields::Short, Part { start: 0, count: 0 })
+    let fields = Fields::Token {
+        destination: Address(d),
+        source: Address(a),
+    };
+    Ok((fields, Part { start: 0, count: 0 }))
 }
 
 // What a string of octets is read as. A form that has a body tells where it stands, and then all are read alike.
-pub fn read(s: &[u8]) -> Answer
-    ensures { result ≡ reading_read s.now }
+pub fn read(s: &[u8]) -> Result<(Fields, Part), Refusal>
+    ensures { answered result ≡ reading_read s.now }
 {
-    if s.len() == 0 {
-        return Answer::Refused(1);
-    }
-    let first = s[0];
-    let start;
-    let n;
-    if first == SD1 {
-        start = 1;
-        n = 3;
-    } else if first == SD2 {
-        if s.len() < 4 {
-            return Answer::Refused(3);
+    let (start, n) = match *s {
+        [] => return Err(Refusal::Empty),
+        [SD1, ..] => (1, 3),
+        [SD2, le, repeat, fourth, ..] => {
+            if mismeasured(le, repeat, fourth) {
+                return Err(Refusal::Length);
+            }
+            (4, usize::from(le))
         }
-        let le = s[1];
-        if mismeasured(le, s[2], s[3]) {
-            return Answer::Refused(4);
-        }
-        start = 4;
-        n = frame::wide(le);
-    } else if first == SD3 {
-        start = 1;
-        n = 11;
-    } else if first == SD4 {
-        return read_token(s);
-    } else if first == SC {
-        return read_short(s);
-    } else {
-        return Answer::Refused(2);
-    }
+        [SD2, ..] => return Err(Refusal::Short),
+        [SD3, ..] => (1, 11),
+        [SD4, ..] => return read_token(s),
+        [SC] => return Ok((Fields::Short, Part { start: 0, count: 0 })),
+        [SC, ..] => return Err(Refusal::Count),
+        _ => return Err(Refusal::NoStart),
+    };
     read_body(s, start, n)
 }

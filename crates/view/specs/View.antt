@@ -4,4 +4,4 @@ use Rattle.view.specs.declared.Reader.{Reader}
 
 -- where the data lie
 abbrev pub part_of : Reader → Part
-part_of r = record { start = r.start; count = r.count }
+part_of r = r.part

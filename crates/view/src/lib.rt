@@ -12,26 +12,22 @@ use frame::Part;
 #[derive(Clone, Copy)]
 pub struct Reader<'a> {
     pub octets: &'a [u8],
-    pub start: usize,
-    pub count: usize,
+    pub part: Part,
 }
 
 // The reader of an accepted frame: the string that was read, and the part that reading gave.
-pub fn accepted<'a>(octets: &'a [u8], p: Part) -> Reader<'a>
+pub fn accepted(octets: &[u8], p: Part) -> Reader<'_>
     ensures { (result.octets ≡ octets.entry) × (part_of result ≡ p) }
 {
-    Reader {
-        octets,
-        start: p.start,
-        count: p.count,
-    }
+    Reader { octets, part: p }
 }
 
 // The data, as that part of the caller's octets.
-pub fn shown<'a>(r: Reader<'a>) -> &'a [u8]
+#[tactic(auto, unfolding(frame::specs::Reading::shown))]
+pub fn shown(r: Reader<'_>) -> &[u8]
     ensures { result.now ≡ reading_shown r.entry.octets.now (part_of r.entry) }
 {
-    read::part(r.octets, r.start, r.count)
+    read::part(r.octets, r.part.start, r.part.count)
 }
 
 // The data of an accepted frame, through its reader.

@@ -6,14 +6,15 @@ use Rattle.choice.proofs.Rules.{if-less, unless-less, if-same, unless-same, pass
 use Rattle.frame.specs.declared.Head.{Head}
 use Rattle.frame.specs.declared.Fields.{Fields}
 use Rattle.frame.specs.declared.Fields.TheVariants.{Frame}
-use Rattle.frame.specs.declared.Written.{Written}
-use Rattle.frame.specs.declared.Written.TheVariants.{Refused, Count}
+use Rattle.frame.specs.Format.{Written}
+use Rattle.frame.specs.Format.{Refused, Count}
 use Rattle.control.specs.Control.{fc, listed}
 use Rattle.frame.specs.Format.{unit, body, framed, octets, outside, misdirected}
 use Rattle.frame.specs.Format.{unwritable, unwritable_frame, refused, written, left}
 use Rattle.laid.specs.Laid.{laid}
 use Rattle.laid.proofs.Laws.{laid-start}
-use Rattle.frame.proofs.Lengths.{length-body}
+use Rattle.control.proofs.Octet.{listed-fc}
+use Rattle.frame.proofs.Lengths.{length-body, length-unit}
 use Rattle.write.proofs.Frame.{start, length-framed}
 
 -- ---- the answer r and the output left behind for a frame f with the data x and an output o
@@ -87,3 +88,8 @@ module _ (h : Head) (x : List ℕ) {n r : ℕ} (e : n ≡ length (unit h x)) (a 
         octets = refl;
         count = length-framed (body h x) n (omega (arith, length-body h x));
       }
+
+-- ---- what the functions use by these names
+pub ruleset lengths = (length-unit)
+
+pub ruleset listing = (listed-fc)

@@ -1,10 +1,10 @@
 -- The stores of a frame: two in a row, and a whole frame: how it is laid, and how long it is. Assumes nothing.
-use Rattle.std.proofs.Common.{◌≡◌, ℕ, zero, suc, ◌+◌, ◌≤◌, Bool, true, false, List, [], ◌∷◌, ◌++◌, length, set, sym, refl, ap, ◌∙◌, add-one, arith, length-append}
+use Rattle.std.proofs.Common.{◌≡◌, ℕ, zero, suc, ◌+◌, ◌≤◌, Bool, true, false, List, [], ◌∷◌, ◌++◌, length, drop, set, sym, refl, ap, ◌∙◌, add-one, arith, length-append}
 use Rattle.choice.specs.Choice.{pick, same}
 use Rattle.choice.proofs.Rules.{same_false}
 use Rattle.frame.specs.Format.{SD1, SD2, ED, sd1, sd2, closing, framed}
 use Rattle.laid.specs.Laid.{laid, Lays}
-use Rattle.laid.proofs.Laws.{laid-sets, laid-behind, length-laid}
+use Rattle.laid.proofs.Laws.{laid-sets, laid-behind, lays-sets, length-laid}
 use Rattle.write.specs.declared.Tally.{Tally}
 use Rattle.write.specs.Adding.{Adds}
 use Rattle.write.proofs.Adding.{adds-closed}
@@ -47,3 +47,26 @@ length-start zero = refl
 length-start (suc n) =
     rw (same_false {a = suc n} {b = 0} (λ q. omega arith), same_false {a = suc n + 3} {b = 3} (λ q. omega arith))
     (omega arith)
+
+-- one store at the start, and three
+pub first_stored : (l : List ℕ) (a : ℕ) → 1 ≤ length l → set l 0 a ≡ a ∷ drop 1 l
+first_stored [] a h = absurd (omega arith)
+first_stored (x ∷ l) a h = refl
+
+pub three_stored : (l : List ℕ) (a b c : ℕ) → 3 ≤ length l
+    → set (set (set l 0 a) 1 b) 2 c ≡ a ∷ (b ∷ (c ∷ drop 3 l))
+three_stored [] a b c h = absurd (omega arith)
+three_stored (x ∷ []) a b c h = absurd (omega arith)
+three_stored (x ∷ (y ∷ [])) a b c h = absurd (omega arith)
+three_stored (x ∷ (y ∷ (z ∷ l))) a b c h = refl
+
+-- the start octets
+pub start_one : (l : List ℕ) (a : ℕ) → 4 ≤ length l → Lays l 0 (a ∷ []) 4 1 (set l 0 a)
+start_one l a h = lays-sets l 0 (a ∷ []) 4 1 _ (omega arith) (omega arith) refl refl
+
+pub start_four : (l : List ℕ) (a b c d : ℕ) → 4 ≤ length l
+    → Lays l 0 (a ∷ (b ∷ (c ∷ (d ∷ [])))) 4 4 (set (set (set (set l 0 a) 1 b) 2 c) 3 d)
+start_four l a b c d h = lays-sets l 0 (a ∷ (b ∷ (c ∷ (d ∷ [])))) 4 4 _ (omega arith) (omega arith) refl refl
+
+-- what the functions use by this name
+pub ruleset stores = (laid-two, first_stored, three_stored)

@@ -9,8 +9,8 @@ use Rattle.frame.specs.declared.Address.{Address}
 use Rattle.frame.specs.declared.Head.{Head}
 use Rattle.frame.specs.declared.Fields.{Fields}
 use Rattle.frame.specs.declared.Fields.TheVariants.{Token, Short, Frame}
-use Rattle.frame.specs.declared.Written.{Written}
-use Rattle.frame.specs.declared.Written.TheVariants.{Refused, Count}
+use Rattle.frame.specs.Format.{Written}
+use Rattle.frame.specs.Format.{Refused, Count}
 use Rattle.frame.specs.Format.{SD1, SD2, unit, octets, outside, misdirected}
 use Rattle.frame.specs.Format.{unwritable_token, unwritable_frame, unwritable, written, left}
 use Rattle.laid.specs.Laid.{laid, Lays}

@@ -1,10 +1,6 @@
 -- `capture::bodies` meets its contract: the loop keeps `Walked`, and each way out lays all that was to come.
-use Prim.Native.Nat.{◌-◌}
 use Rattle.capture.proofs.Walk.{Walked}
 use Rattle.capture.proofs.bodies.Given as goal
 
 abbrev pub invariant-loop-i : goal.invariant-loop-i
 invariant-loop-i l = Walked l.s l.count l.initial.out l.out l.at l.i l.w
-
-abbrev pub decreases-loop-i : goal.decreases-loop-i
-decreases-loop-i l = l.count - l.i

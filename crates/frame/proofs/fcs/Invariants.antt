@@ -1,12 +1,7 @@
--- `frame::fcs` meets its contract. The loop's invariant: the sum so far is the FCS of the octets passed. Assumes
--- nothing.
-use Rattle.std.proofs.Common.{◌≡◌, ◌-◌, ◌≤◌, length, take, ap, ◌∙◌, arith, take_all}
-use Rattle.frame.specs.Format.{fcs, sum}
-use Rattle.frame.proofs.Sum.{fcs-step}
+-- `frame::fcs`: the sum so far is the FCS of the octets passed. Assumes nothing.
+use Rattle.std.proofs.Common.{◌≡◌, take}
+use Rattle.frame.specs.Format.{fcs}
 use Rattle.frame.proofs.fcs.Given as goal
 
-abbrev pub invariant-loop-i : goal.invariant-loop-i
-invariant-loop-i l = (l.i ≤ length l.body) × (l.sum ≡ fcs (take l.i l.body))
-
-abbrev pub decreases-loop-i : goal.decreases-loop-i
-decreases-loop-i l = length l.body - l.i
+abbrev pub invariant-loop-octet : goal.invariant-loop-octet
+invariant-loop-octet l = l.sum ≡ fcs (take l.octet-index l.body)

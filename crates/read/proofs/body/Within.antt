@@ -36,3 +36,5 @@ data-within b h e =
     let n = passed _ 10 _ (omega arith) m.1 in
     misnamed-within b (octet b 1) (3 + extensions (octet b 0)) 62
     (misnamed-within b (octet b 0) 3 63 h (is_said m.0)) (is_said n.0)
+
+pub ruleset lies_within = (data-within)

@@ -1,20 +1,14 @@
 -- `write::lay_data` meets its contract. The loop's invariant: the octets passed are laid and added up.
-use Rattle.std.proofs.Common.{refl, ◌∙◌, arith, length-set, take_all}
+use Rattle.std.proofs.Common.{refl, ◌∙◌, arith, length-set}
 use Rattle.write.proofs.Adding.{adds-nil, adds-more}
 use Rattle.write.proofs.lay_data.Goals as goal
 
 pub loop-i-init : goal.loop-i-init
-loop-i-init c = (omega arith, refl, adds-nil _ _ _ (omega arith) (omega arith) refl)
+loop-i-init c = (refl, adds-nil _ _ _ (omega arith) (omega arith) refl)
 
 pub loop-i-preserved : goal.loop-i-preserved
 loop-i-preserved c =
     let l = c.loop-i in (
-      omega arith,
-      length-set l.out _ _ ∙ l.invariant.1,
-      adds-more c.args.«data».now l.i l.sum _ (omega arith) (omega arith) l.invariant.2
-          c.wrapping_add_u8-sum.ensures.value,
+      length-set l.out _ _ ∙ l.invariant.0,
+      adds-more c.args.«data».now l.i l.sum _ (omega arith) (omega arith) l.invariant.1 refl,
     )
-
-pub returns : goal.returns
-returns c =
-    rw (take_all c.loop-i.i c.args.«data».now (omega arith)) at c.loop-i.invariant.2

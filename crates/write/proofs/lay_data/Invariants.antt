@@ -1,12 +1,9 @@
 -- `write::lay_data` meets its contract. The loop's invariant: the octets passed are laid and added up.
-use Rattle.std.proofs.Common.{◌≡◌, ◌+◌, ◌-◌, ◌≤◌, length, take}
+use Rattle.std.proofs.Common.{◌≡◌, ◌+◌, length, take}
 use Rattle.write.specs.Adding.{Adds}
 use Rattle.write.proofs.lay_data.Given as goal
 
 abbrev pub invariant-loop-i : goal.invariant-loop-i
 invariant-loop-i l =
-    (l.i ≤ length l.«data») × (length l.out ≡ length l.initial.out)
-    × Adds l.initial.out (record { at = l.at; sum = l.initial.sum }) (take l.i l.«data») (record { at = l.at + l.i; sum = l.sum }) l.out
-
-abbrev pub decreases-loop-i : goal.decreases-loop-i
-decreases-loop-i l = length l.«data» - l.i
+    (length l.out ≡ length l.initial.out)
+    × Adds l.initial.out l.t (take l.i l.«data») (record { at = l.t.at + l.i; sum = l.sum }) l.out

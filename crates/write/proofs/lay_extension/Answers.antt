@@ -4,16 +4,6 @@ use Rattle.frame.specs.Format.{extension}
 use Rattle.write.proofs.Adding.{adds-nil}
 use Rattle.write.proofs.lay_extension.Goals as goal
 
-pub lay_octet-requires : goal.lay_octet-requires
-unfolding extension
-lay_octet-requires c =
-    omega (arith, rw c.in-At.is at c.requires)
-
 pub returns-in-None : goal.returns-in-None
 unfolding extension
 returns-in-None c = rw c.in-None.is (adds-nil _ _ _ (omega arith) refl refl)
-
-pub returns-in-At : goal.returns-in-At
-unfolding extension
-returns-in-At c =
-    rw c.in-At.is c.lay_octet.ensures

@@ -4,5 +4,4 @@ use Rattle.write.proofs.Adding.{adds_one}
 use Rattle.write.proofs.lay_octet.Goals as goal
 
 pub returns : goal.returns
-returns c =
-    adds_one c.args.out.now c.args.t _ c.args.x (omega arith) refl c.wrapping_add_u8.ensures.value
+returns c = adds_one c.args.out.now c.args.t _ c.args.x (omega arith) refl refl

@@ -1,12 +1,14 @@
 -- `write::write_frame` meets its contract: a refusal by its own function, else the start, the body and the closing.
-use Rattle.std.proofs.Common.{◌≡◌, ℕ, ◌+◌, List, length, ◌∙◌, arith}
+use Rattle.std.proofs.Common.{◌≡◌, ℕ, ◌+◌, List, length, refl, ◌∙◌, arith, Ok}
+use Rattle.refusal.specs.Refusal.{refused, number}
+use Rattle.frame.specs.Format.{wrote as format_wrote}
 use Rattle.choice.specs.Choice.{pick, same}
 use Rattle.frame.specs.declared.Head.{Head}
 use Rattle.frame.specs.declared.Fields.TheVariants.{Frame}
 use Rattle.frame.specs.Format.{unit, body, framed, unwritable_frame}
 use Rattle.frame.proofs.Lengths.{length-body}
 use Rattle.write.proofs.Frame.{start, length-start, laid-frame}
-use Rattle.write.proofs.Answers.{unwritten, Writes, short, wrote, writable, frame_refused, writes-frame}
+use Rattle.write.proofs.Answers.{Writes, short, wrote, writable, writes-frame}
 use Rattle.write.proofs.write_frame.Goals as goal
 
 -- how many octets the body has, and how many the frame
@@ -16,37 +18,39 @@ long h x e = omega (arith, length-body h x)
 count : (n : ℕ) {k : ℕ} → k ≡ pick (same n 0) 6 (n + 9) → k ≡ length (start (n + 3)) + (n + 5)
 count n e = e ∙ length-start n
 
--- what is written where nothing refused it
-writes : (h : Head) (x : List ℕ) {n r k : ℕ} → n ≡ length (unit h x) → r ≡ unwritable_frame h n → r ≡ 0
-    → k ≡ pick (same n 0) 6 (n + 9) → Writes (Frame h) x (framed (body h x)) k
-writes h x e a z o = rw (count _ o) (writes-frame h x e a z)
+-- nothing refused it
+unrefused : {n : ℕ} {a : Unit {0}} → refused (Ok a) ≡ n → 0 ≡ n
+unfolding refused
+unrefused e = e
 
-pub returns-then-refused-ne0 : goal.returns-then-refused-ne0
-returns-then-refused-ne0 c =
-    unwritten _ _ (frame_refused c.args.h c.args.«data».now c.units-n.ensures c.refusal-refused.ensures)
-    c.if-refused-ne0.true
+-- what is written then
+writes : (h : Head) (x : List ℕ) {n k : ℕ} → n ≡ length (unit h x) → 0 ≡ unwritable_frame h n
+    → k ≡ pick (same n 0) 6 (n + 9) → Writes (Frame h) x (framed (body h x)) k
+writes h x e a o = rw (count _ o) (writes-frame h x e a refl)
 
 pub octets-count-requires : goal.octets-count-requires
-octets-count-requires c = (writable c.args.h c.refusal-refused.ensures c.if-refused-ne0.false).units
+octets-count-requires c = (writable c.args.h {r = 0} (unrefused c.in_ok-refusal.ensures) refl).units
 
 pub returns-then-out-count : goal.returns-then-out-count
+unfolding format_wrote number
 returns-then-out-count c =
-    let w = writes c.args.h c.args.«data».now c.units-n.ensures c.refusal-refused.ensures c.if-refused-ne0.false
+    let w = writes c.args.h c.args.«data».now c.units-n.ensures (unrefused c.in_ok-refusal.ensures)
     c.octets-count.ensures in
-    short w _ (omega arith)
+    let a = short w _ (omega arith) in
+    record { value = a.value; out_after = a.out_after }
 
 pub overflow_add-n : goal.overflow_add-n
-overflow_add-n c = omega (arith, (writable c.args.h c.refusal-refused.ensures c.if-refused-ne0.false).units)
+overflow_add-n c = omega (arith, (writable c.args.h {r = 0} (unrefused c.in_ok-refusal.ensures) refl).units)
 
 pub overflow_cast-n : goal.overflow_cast-n
-overflow_cast-n c = omega (arith, (writable c.args.h c.refusal-refused.ensures c.if-refused-ne0.false).units)
+overflow_cast-n c = omega (arith, (writable c.args.h {r = 0} (unrefused c.in_ok-refusal.ensures) refl).units)
 
 pub lay_start-at-requires : goal.lay_start-at-requires
 lay_start-at-requires c = omega (arith, count c.units-n.result c.octets-count.ensures)
 
 pub lay_body-t-requires : goal.lay_body-t-requires
 lay_body-t-requires c =
-    let w = writable c.args.h c.refusal-refused.ensures c.if-refused-ne0.false in
+    let w = writable c.args.h {r = 0} (unrefused c.in_ok-refusal.ensures) refl in
     let k = count c.units-n.result c.octets-count.ensures in
     let b = long c.args.h c.args.«data».now c.units-n.ensures in
     record {
@@ -62,13 +66,15 @@ close-requires c =
     omega (arith, k, b, c.lay_start-at.ensures.place, c.lay_body-t.ensures.lays.place)
 
 pub returns : goal.returns
+unfolding format_wrote
 returns c =
     let h = c.args.h in
     let x = c.args.«data».now in
     let n = c.units-n.result in
-    let w = writes h x c.units-n.ensures c.refusal-refused.ensures c.if-refused-ne0.false c.octets-count.ensures in
+    let w = writes h x c.units-n.ensures (unrefused c.in_ok-refusal.ensures) c.octets-count.ensures in
     let k = count c.units-n.result c.octets-count.ensures in
     let s = c.lay_start-at.ensures in
-    wrote w _ (omega arith)
-    (c.close.ensures
-    ∙ laid-frame (body h x) (n + 3) (omega (arith, k, s.place)) (long h x c.units-n.ensures) s c.lay_body-t.ensures)
+    let l = laid-frame (body h x) (n + 3) (omega (arith, k, s.place)) (long h x c.units-n.ensures) s
+    c.lay_body-t.ensures in
+    let a = wrote w _ (omega arith) (c.close.ensures ∙ l) in
+    record { value = a.value; out_after = a.out_after }
