@@ -1,16 +1,18 @@
 -- The laws of a queue's places: they go round the row, no two in use are one, and each act on the queue keeps them and
 -- its counts in order; and what submit decides, case by case. Assumes nothing.
-use Prim.Native.Nat.{ℕ, ◌+◌, ◌-◌, ◌<◌, ◌≤◌}
+use Prim.Native.Nat.{ℕ, ◌+◌, ◌-◌, ◌*◌, ◌<◌, ◌≤◌}
 use mathlib.Core.Bool.{Bool, true, false}
 use mathlib.Core.Path.{◌≡◌, refl, sym, ap, ◌∙◌}
+use native.Mathlib.Nat.{mul-le-mul}
 use native.Mathlib.Omega.{arith}
 use Rattle.choice.specs.Choice.{pick, less, same}
 use Rattle.choice.proofs.Rules.{true-less, false-less, true_same, false_same, pick_true, pick-false, pick-itself}
 use Rattle.choice.proofs.Rules.{flag_true, flag-false, if-less, unless-less, unrefused, granted}
 use Rattle.request.specs.declared.Record.{Record}
 use Rattle.request.specs.Record.{unfit}
+use Rattle.request.proofs.Laws.{fit-short}
 use Rattle.queue.specs.declared.Queue.{Queue}
-use Rattle.queue.specs.declared.Taken.{Taken}
+use Rattle.queue.specs.Queue.{Taken}
 use Rattle.queue.specs.Queue.{Ruled, place, current, above, overfull, refuse, take, taken, grown}
 use Rattle.queue.specs.Queue.{confirmed, freed}
 
@@ -145,3 +147,9 @@ accepting h (refused m z e) = absurd (z (ap (λ (t : Taken). t.refused) e ∙ h)
 
 pub not-refused : (ts : ℕ) (q : Queue) (r : Record) (n : ℕ) → (taken ts q r n).refused ≡ 0 → Accepted ts q r n
 not-refused ts q r n h = accepting h (decided ts q r n)
+
+-- a row of at most 255 for each of at most 255 places is small; and the data of a fit request
+pub small_row : (each places : ℕ) → each ≤ 255 → places ≤ 255 → each * places ≤ 65025
+small_row each places e p = mul-le-mul {n₁ = each} {m₁ = places} {n₂ = 255} {m₂ = 255} e p
+
+pub ruleset fits = (fit-short)

@@ -1,14 +1,15 @@
 -- Document 01, "Station": a queue as a row of places used in turn, "confirmed ones come first, then the one being sent,
 -- then the waiting", and what submit, a confirmation and collect make of it. Numbers and records only; the row's memory
 -- is the business of the crates above. Assumes nothing.
-use Rattle.std.specs.Prelude.{ℕ, ◌+◌, ◌-◌, ◌*◌, ◌<◌, ◌≤◌, Bool, true, false}
+use Rattle.std.specs.Prelude.{ℕ, ◌+◌, ◌-◌, ◌*◌, ◌<◌, ◌≤◌, Bool, true, false, Result, Ok, Err}
 use Rattle.choice.specs.Choice.{pick, less, same, said}
+use Rattle.refusal.specs.declared.Refusal.{Refusal}
+use Rattle.refusal.specs.Refusal.{number}
 use Rattle.request.specs.declared.Record.{Record}
 use Rattle.request.specs.Record.{WAITING, unfit, named}
 use Rattle.queue.specs.declared.Queue.{Queue}
-use Rattle.queue.specs.declared.Taken.{Taken}
-use Rattle.queue.specs.declared.Collected.{Collected}
-use Rattle.queue.specs.declared.Collected.TheVariants.{Refused, Handed}
+use Rattle.queue.specs.declared.Taken.{Taken as Takes}
+use Rattle.queue.specs.declared.Handed.{Handed as Hands}
 
 -- a row has "1..64 places, with 246 data octets a place"
 abbrev pub PLACES : ℕ
@@ -62,6 +63,14 @@ closed r status count n =
     }
 
 -- ---- submit
+-- what submit decides: the number of the refusal or 0, the place taken, the record to stand there, and the queue; refused,
+-- the record and the queue are those offered
+pub record Taken : Type 0 where
+  pub refused : ℕ
+  pub place : ℕ
+  pub entry : Record
+  pub queue : Queue
+
 -- the record of an accepted request with n octets of data
 abbrev pub waiting : Record → ℕ → Record
 waiting r n = closed r WAITING 0 n
@@ -76,6 +85,14 @@ refuse n q r = record { refused = n; place = 0; entry = r; queue = q }
 unfoldable pub take : Queue → Record → ℕ → Taken
 take q r n =
     record { refused = 0; place = place q (q.confirmed + q.unconfirmed); entry = waiting r n; queue = grown q }
+
+-- the same as it is answered, of the queue and the record offered
+unfoldable pub accepted : Takes → Taken
+accepted t = record { refused = 0; place = t.place; entry = t.entry; queue = t.queue }
+
+unfoldable pub taken_of : Queue → Record → Result Takes Refusal → Taken
+taken_of q r (Ok t) = accepted t
+taken_of q r (Err e) = refuse (number e) q r
 
 -- 23 to 26 and 30, then 27, "every place in use"; or the place that the request takes, its record, and the queue with it
 unfoldable pub taken : ℕ → Queue → Record → ℕ → Taken
@@ -95,6 +112,16 @@ confirmed q =
     record { places = q.places; first = q.first; confirmed = q.confirmed + 1; unconfirmed = q.unconfirmed - 1 }
 
 -- ---- collect
+-- what collect hands back: the number of the refusal, or the place's number, its record, and the queue with the place free
+pub data Collected : Type 0 where
+  Refused : ℕ → Collected
+  Handed : ℕ → Record → Queue → Collected
+
+-- the same as it is answered
+unfoldable pub collected_of : Result Hands Refusal → Collected
+collected_of (Ok h) = Handed h.place h.entry h.queue
+collected_of (Err e) = Refused (number e)
+
 -- the queue with its first place free
 unfoldable pub freed : Queue → Queue
 freed q =

@@ -5,20 +5,25 @@ use mathlib.Core.Bool.{Bool, true, false}
 use mathlib.Core.Path.{◌≡◌, refl, sym, ap, ◌∙◌}
 use mathlib.Core.List.{List, [], ◌∷◌, ◌++◌, append_assoc}
 use native.Mathlib.Omega.{arith}
-use lib.ListN.{length, get_or, set, drop, replicate, length-append, length-replicate}
+use lib.ListN.{length, get_or, set, drop, replicate, get_or-eq_default, length-append, length-replicate}
 use lib.Seq.{take-append-add, drop-append-add, get_or-append-add}
+use Rattle.std.proofs.Common.{Ok, Err}
 use Rattle.choice.specs.Choice.{pick, less}
+use Rattle.choice.proofs.Rules.{pick_true, pick-false, same_true, same_false}
+use Rattle.refusal.specs.declared.Refusal.{Refusal}
+use Rattle.refusal.proofs.Numbers.{above_zero}
 use Rattle.frame.specs.Reading.{octet}
 use Rattle.laid.specs.Laid.{laid}
 use Rattle.request.specs.declared.Record.{Record}
 use Rattle.request.specs.Record.{SIZE, reference_at, reference_octets, flagged, octets, record_at}
 use Rattle.request.proofs.Laws.{length-octets, reference-whole, flag-whole}
 use Rattle.queue.specs.declared.Queue.{Queue}
-use Rattle.queue.specs.declared.Taken.{Taken}
-use Rattle.queue.specs.Queue.{AREA, Ruled, taken}
+use Rattle.queue.specs.declared.Taken.{Taken as Takes}
+use Rattle.queue.specs.Queue.{AREA, Ruled, Taken, accepted, refuse, taken, taken_of}
 use Rattle.rows.specs.Rows as Rows
 use Rattle.rows.specs.Rows.{Lent, left, stored}
-use Rattle.rows.proofs.Submitted.{room}
+use Rattle.rows.proofs.Submitted as Submitted
+use Rattle.rows.proofs.Submitted.{room_of}
 use Rattle.records.specs.Records.{blank, row_of, placed, filled}
 
 pub length-row : (row : List Record) → length (row_of row) ≡ SIZE * length row
@@ -106,20 +111,20 @@ octets-tell (r ∷ a) (s ∷ b) e =
     cc (heads, octets-tell a b tails)
 
 -- ---- a request taken has room for its data, and for its record
-pub room_for : (ts : ℕ) (q : Queue) (r : Record) (x area : List ℕ) {t : Taken} → Ruled q
-    → length area ≡ AREA * q.places → t ≡ taken ts q r (length x) → t.refused ≡ 0
+pub room_for : (ts : ℕ) (q : Queue) (r : Record) (t : Takes) (x area : List ℕ) → Ruled q
+    → length area ≡ AREA * q.places → taken_of q r (Ok t) ≡ taken ts q r (length x)
     → (AREA * t.place + AREA ≤ length area) × (length x ≤ AREA)
-room_for ts q r x area u e d z =
+room_for ts q r t x area u e d =
     let any : List ℕ = replicate (SIZE * q.places) 0 in
     let h =
-    room ts q r x any area u (record { places = length-replicate (SIZE * q.places) 0; areas = e }) d z
+    room_of ts q r t x any area u (record { places = length-replicate (SIZE * q.places) 0; areas = e }) d
     in
     (h.data-fit, h.short)
 
-pub within-row : (ts : ℕ) (q : Queue) (r : Record) (x : List ℕ) (row : List Record) (area : List ℕ) {t : Taken}
-    → Ruled q → Lent q (row_of row) area → t ≡ taken ts q r (length x) → t.refused ≡ 0 → t.place < length row
-within-row ts q r x row area u l d z =
-    omega (arith, (room ts q r x (row_of row) area u l d z).record-fits, length-row row)
+pub within-row : (ts : ℕ) (q : Queue) (r : Record) (t : Takes) (x : List ℕ) (row : List Record) (area : List ℕ)
+    → Ruled q → Lent q (row_of row) area → taken_of q r (Ok t) ≡ taken ts q r (length x) → t.place < length row
+within-row ts q r t x row area u l d =
+    omega (arith, (room_of ts q r t x (row_of row) area u l d).record-fits, length-row row)
 
 -- ---- what submit's decision leaves
 stored-by : (b : Bool) (t : Taken) (row row' area area' : List ℕ)
@@ -131,3 +136,23 @@ stored-by false t row row' area area' = refl
 pub is-stored : (t : Taken) (x row area : List ℕ) → left t (placed t row) (filled t x area) ≡ stored t x row area
 unfolding stored placed filled
 is-stored t x row area = stored-by _ t _ row _ area
+
+-- and by the answer: refused, all is as it was
+pub filled-err : (q : Queue) (r : Record) (e : Refusal) (x area : List ℕ) → filled (taken_of q r (Err e)) x area ≡ area
+unfolding filled taken_of refuse
+filled-err q r e x area = pick-false _ _ (same_false (λ z. omega (arith, above_zero e)))
+
+pub stored-err : (q : Queue) (r : Record) (e : Refusal) (x row area : List ℕ)
+    → left (taken_of q r (Err e)) row (filled (taken_of q r (Err e)) x area) ≡ stored (taken_of q r (Err e)) x row area
+stored-err q r e x row area = rw (filled-err q r e x area) (Submitted.stored-err q r e x row area)
+
+pub filled-ok : (q : Queue) (r : Record) (t : Takes) (x area : List ℕ)
+    → filled (taken_of q r (Ok t)) x area ≡ Rows.fill area t.place x
+unfolding filled taken_of accepted
+filled-ok q r t x area = pick_true _ _ (same_true refl)
+
+pub ruleset read_there = (at_row, get_or-eq_default)
+
+pub ruleset put_there = (put-row)
+
+pub ruleset row_steps = (at_row, put-row, length-row)

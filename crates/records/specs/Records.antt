@@ -4,7 +4,7 @@ use Rattle.std.specs.Prelude.{ℕ, false, List, [], ◌∷◌, ◌++◌}
 use Rattle.choice.specs.Choice.{pick, same}
 use Rattle.request.specs.declared.Record.{Record}
 use Rattle.request.specs.Record.{octets}
-use Rattle.queue.specs.declared.Taken.{Taken}
+use Rattle.queue.specs.Queue.{Taken}
 use Rattle.rows.specs.Rows.{put, fill}
 
 -- the octets of each record in turn

@@ -3,6 +3,7 @@ use Prim.Native.Nat.{ℕ, zero, suc, ◌-◌, ◌<◌}
 use mathlib.Core.List.{List}
 use mathlib.Core.Path.{◌≡◌, refl, ap}
 use native.Mathlib.Omega.{arith}
+use lib.Seq.{set_out}
 use Rattle.choice.specs.Choice.{pick}
 use Rattle.ring.specs.Ring.{member, on, seek}
 
@@ -19,3 +20,8 @@ seek-some l step (suc n) a h =
   where
     one_less : (k : ℕ) → k ≡ suc k - 1
     one_less k = omega arith
+
+pub ruleset seek_steps = (seek-none, seek-some)
+
+-- beyond the last address nothing is set
+pub ruleset no_place = (set_out)

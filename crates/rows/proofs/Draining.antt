@@ -1,5 +1,5 @@
 -- A drain under way: what is left to confirm, from what is left so far, ends as the whole does. Assumes nothing.
-use Prim.Native.Nat.{ℕ, zero, suc, ◌-◌, ◌<◌, ◌≤◌}
+use Prim.Native.Nat.{ℕ, zero, suc, ◌+◌, ◌-◌, ◌<◌, ◌≤◌}
 use mathlib.Core.Path.{◌≡◌, sym, ◌∙◌}
 use mathlib.Core.List.{List, []}
 use native.Mathlib.Omega.{arith}
@@ -63,20 +63,15 @@ module _ {q rest : Queue} {count sendings : ℕ} {row₀ area₀ row area : List
       → Draining q count row₀ area₀ rest' 0 row' area'
   draining-one h e = confirming h _ e
 
-  -- the count of unconfirmed requests falls
+  -- the count of unconfirmed requests falls by one
   fewer : 0 < rest.unconfirmed → (w : Left Queue) → w ≡ confirm rest DS sendings [] row area
-      → w.answer.unconfirmed < rest.unconfirmed
+      → w.answer.unconfirmed + 1 ≡ rest.unconfirmed
   unfolding confirm confirmed
   fewer h w e = rw e (omega arith)
 
   pub draining-fewer : {rest' : Queue} {row' area' : List ℕ} → 0 < rest.unconfirmed
-      → left rest' row' area' ≡ confirm rest DS sendings [] row area → rest'.unconfirmed < rest.unconfirmed
+      → left rest' row' area' ≡ confirm rest DS sendings [] row area → rest'.unconfirmed + 1 ≡ rest.unconfirmed
   draining-fewer h e = fewer h _ e
-
-  -- the row and the data area are as long as they were
-  pub draining-lengths : Lent q row₀ area₀ → (length row ≡ length row₀) × (length area ≡ length area₀)
-  draining-lengths l =
-      (omega (arith, d.lent.places, d.places, l.places), omega (arith, d.lent.areas, d.places, l.areas))
 
   pub draining-none : rest.unconfirmed ≡ 0 → left rest row area ≡ drain q.unconfirmed count (left q row₀ area₀)
   draining-none h = sym (drain-none rest.unconfirmed sendings (left rest row area) h) ∙ d.ends

@@ -9,7 +9,7 @@ use lib.ListN.{length}
 use Rattle.request.specs.declared.Record.{Record}
 use Rattle.request.specs.Record.{SIZE, unfit}
 use Rattle.queue.specs.declared.Queue.{Queue}
-use Rattle.queue.specs.declared.Taken.{Taken}
+use Rattle.queue.specs.Queue.{Taken}
 use Rattle.queue.specs.Queue.{Ruled, place, current, closed, waiting, refuse, take, grown, confirmed, freed}
 use Rattle.queue.proofs.Laws.{place-below, place-apart, place-grown, place-confirmed, place-freed, Accepted}
 use Rattle.rows.specs.Rows.{at, put, Lent, Left, left, submitted, confirm, drain, pending, sound}

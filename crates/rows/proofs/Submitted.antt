@@ -5,15 +5,19 @@ use mathlib.Core.Path.{◌≡◌, refl, ◌∙◌}
 use mathlib.Core.List.{List}
 use native.Mathlib.Omega.{arith}
 use lib.ListN.{length}
+use Rattle.std.proofs.Common.{Ok, Err}
 use Rattle.choice.proofs.Rules.{if-same, unless-same}
+use Rattle.refusal.specs.declared.Refusal.{Refusal}
+use Rattle.refusal.specs.Refusal.{number}
+use Rattle.refusal.proofs.Numbers.{above_zero}
 use Rattle.request.specs.declared.Record.{Record}
 use Rattle.request.specs.Record.{SIZE}
 use Rattle.request.proofs.Laws.{fit-short}
 use Rattle.queue.specs.declared.Queue.{Queue}
-use Rattle.queue.specs.declared.Taken.{Taken}
-use Rattle.queue.specs.Queue.{AREA, Ruled, refuse, take, taken, grown}
+use Rattle.queue.specs.declared.Taken.{Taken as Takes}
+use Rattle.queue.specs.Queue.{AREA, Ruled, Taken, accepted, refuse, take, taken, taken_of, grown}
 use Rattle.queue.proofs.Laws.{ruled-grown, place-below, Accepted, Decided, decided, not-refused}
-use Rattle.queue.proofs.Laws.Decided.{refused, accepted}
+use Rattle.queue.proofs.Laws.Decided.{refused, accepted as agreed}
 use Rattle.rows.specs.Rows.{put, fill, Lent, Left, left, stored, submitted}
 use Rattle.rows.proofs.Laws.{length-put, length-fill}
 
@@ -27,6 +31,18 @@ pub stored-taken : (t : Taken) (x row area : List ℕ) {row' area' : List ℕ} �
     → left t row' area' ≡ stored t x row area
 unfolding stored
 stored-taken t x row area h e f = rw (e, f) (if-same _ h refl)
+
+-- as the code decides it
+pub stored-err : (q : Queue) (r : Record) (e : Refusal) (x row area : List ℕ)
+    → left (taken_of q r (Err e)) row area ≡ stored (taken_of q r (Err e)) x row area
+unfolding taken_of refuse
+stored-err q r e x row area = stored_refused (refuse (number e) q r) x row area (λ z. omega (arith, above_zero e))
+
+pub stored-ok : (q : Queue) (r : Record) (t : Takes) (x row area : List ℕ) {row' area' : List ℕ}
+    → row' ≡ put row t.place t.entry → area' ≡ fill area t.place x
+    → left (taken_of q r (Ok t)) row' area' ≡ stored (taken_of q r (Ok t)) x row area
+unfolding taken_of accepted
+stored-ok q r t x row area e f = stored-taken (accepted t) x row area refl e f
 
 -- ---- a request taken has room for its record and its data
 pub record Room (p : ℕ) (x row area : List ℕ) : Type 0 where
@@ -50,6 +66,11 @@ pub room : (ts : ℕ) (q : Queue) (r : Record) (x row area : List ℕ) {t : Take
 room ts q r x row area u l d z =
     let a = not-refused ts q r (length x) (rw d at z) in
     rw (d, ← a.is) (room_at ts q r x row area u l a)
+
+pub room_of : (ts : ℕ) (q : Queue) (r : Record) (t : Takes) (x row area : List ℕ) → Ruled q → Lent q row area
+    → taken_of q r (Ok t) ≡ taken ts q r (length x) → Room t.place x row area
+unfolding taken_of accepted
+room_of ts q r t x row area u l d = room ts q r x row area {t = accepted t} u l d refl
 
 -- ---- the whole call
 -- the request taken, with its record and its data at its place
@@ -77,7 +98,7 @@ module _ (ts : ℕ) (q : Queue) (r : Record) (x row area : List ℕ) where
   outcome-by : Decided ts q r (length x) → Outcome ts q r x row area (submitted ts q r x row area)
   unfolding submitted
   outcome-by (refused m z e) = as_it_was m z (rw (← e) (refused-so m q r x row area z))
-  outcome-by (accepted a) = with_it a (rw (← a.is) (taken-so q r x row area))
+  outcome-by (agreed a) = with_it a (rw (← a.is) (taken-so q r x row area))
 
   pub outcome : Outcome ts q r x row area (submitted ts q r x row area)
   outcome = outcome-by (decided ts q r (length x))

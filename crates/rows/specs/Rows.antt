@@ -7,8 +7,8 @@ use Rattle.laid.specs.Laid.{laid}
 use Rattle.request.specs.declared.Record.{Record}
 use Rattle.request.specs.Record.{SIZE, DS, octets, record_at, unfit}
 use Rattle.queue.specs.declared.Queue.{Queue}
-use Rattle.queue.specs.declared.Taken.{Taken}
-use Rattle.queue.specs.declared.Collected.{Collected}
+use Rattle.queue.specs.Queue.{Taken}
+use Rattle.queue.specs.Queue.{Collected}
 use Rattle.queue.specs.Queue.{AREA, place, current, closed, taken, confirmed, collected}
 
 -- the record at a place, and the octets of a place's data

@@ -1,13 +1,15 @@
 -- What the C functions of a row hand over: answers as structs of numbers, and what each call leaves in the row and the
 -- data area, all of it. Assumes nothing.
-use Rattle.std.specs.Prelude.{ℕ, List, length}
+use Rattle.std.specs.Prelude.{ℕ, List, length, Result, Ok, Err}
 use Rattle.choice.specs.Choice.{pick, less, same, said}
+use Rattle.refusal.specs.declared.Refusal.{Refusal}
+use Rattle.refusal.specs.Refusal.{number}
 use Rattle.request.specs.declared.Record.{Record}
 use Rattle.request.specs.Record.{SIZE, flag_octet, flagged}
 use Rattle.queue.specs.declared.Queue.{Queue}
-use Rattle.queue.specs.declared.Taken.{Taken}
-use Rattle.queue.specs.declared.Collected.{Collected}
-use Rattle.queue.specs.declared.Collected.TheVariants.{Refused, Handed}
+use Rattle.queue.specs.Queue.{Taken}
+use Rattle.queue.specs.Queue.{Collected}
+use Rattle.queue.specs.Queue.{Refused, Handed}
 use Rattle.queue.specs.Queue.{AREA, misfit, overfull}
 use Rattle.rows.specs.Rows.{Left, left, submitted, confirm, drain, handed, sound}
 use Rattle.test_parts.specs.declared.row_calls.FlatQueue.{FlatQueue}
@@ -37,6 +39,11 @@ request_from service destination to from reference limit asks =
 unfoldable pub flat_queue : ℕ → Queue → FlatQueue
 flat_queue n q =
     record { refused = n; place = 0; first = q.first; confirmed = q.confirmed; unconfirmed = q.unconfirmed }
+
+-- the answer of a call that was refused or makes a queue
+unfoldable pub answered : Queue → Result Queue Refusal → FlatQueue
+answered q (Ok made) = flat_queue 0 made
+answered q (Err e) = flat_queue (number e) q
 
 unfoldable pub flat_taken : Taken → FlatQueue
 flat_taken t =

@@ -3,8 +3,8 @@ use Rattle.std.specs.Prelude.{ℕ, List}
 use Rattle.choice.specs.Choice.{pick, less, said}
 use Rattle.clock.specs.Clock.{time_left}
 use Rattle.times.specs.declared.Settings.{Settings}
-use Rattle.times.specs.declared.Reckoned.{Reckoned}
-use Rattle.times.specs.declared.Reckoned.TheVariants.{Refused, Reckon}
+use Rattle.times.specs.Times.{Reckoned}
+use Rattle.times.specs.Times.{Refused, Reckon}
 use Rattle.times.specs.declared.Sending.TheVariants.{Reply, AfterSdn, Other}
 use Rattle.times.specs.Times.{reckoned, wait_of}
 use Rattle.ring.specs.Ring.{next_of, previous_of}

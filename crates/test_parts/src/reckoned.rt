@@ -1,18 +1,20 @@
 // The station's times and its ring for the tests outside Rattle, as C functions. Numbers go in and
 // structs of numbers come out; every input has an answer. Assumes nothing.
+#![tactic(auto, using(crate::proofs::reckoned::Laws::reckoned_small), unfolding(choice::specs::Choice::pick, choice::specs::Choice::said, choice::specs::Choice::less, times::specs::Times::told, crate::specs::Parts::flat_times, crate::specs::Parts::reckons, crate::specs::Parts::is_left, crate::specs::Parts::nexts, crate::specs::Parts::previouses))]
+
 ghost use Rattle.std.specs.Prelude.{◌≡◌};
 ghost use Rattle.ring.specs.Ring.{enter, remove};
 ghost use Rattle.times.specs.Times.{Small};
-ghost use Rattle.times.specs.declared.Reckoned.TheVariants.{Refused, Reckon};
+ghost use Rattle.times.specs.Times.{Refused, Reckon};
 ghost use Rattle.test_parts.specs.Parts.{settings_from, flat_times, reckons, is_left, nexts, previouses};
 
 use clock::BitTime;
 use frame::Address;
-use times::{Count, Reckoned, Sending, Settings, Times};
+use times::{Count, Sending, Settings, Times};
 
 // The times that follow from settings, and the waits: refused is 0 or the refusal, and then all others are 0.
 #[repr(C)]
-#[derive(Clone, Copy)]
+#[derive(Clone, Copy, Default)]
 pub struct FlatTimes {
     pub refused: u8,
     pub tsm: u32,
@@ -30,14 +32,7 @@ fn flat_refused(n: u8, s: Settings) -> FlatTimes
 {
     FlatTimes {
         refused: n,
-        tsm: 0,
-        tid1: 0,
-        tid2: 0,
-        tsl: 0,
-        tto: 0,
-        reply: 0,
-        aftersdn: 0,
-        other: 0,
+        ..FlatTimes::default()
     }
 }
 
@@ -84,8 +79,8 @@ pub extern "C" fn parts_reckon(
         tsdi: BitTime(tsdi),
     };
     match times::reckon(s, Address(ts)) {
-        Reckoned::Refused(n) => flat_refused(n, s),
-        Reckoned::Reckon(t) => flat_times(t, s),
+        Ok(t) => flat_times(t, s),
+        Err(r) => flat_refused(r.number(), s),
     }
 }
 
@@ -94,10 +89,7 @@ pub extern "C" fn parts_reckon(
 pub extern "C" fn parts_left(clock: u32, acceptance: u32, ttr: u32) -> u8
     ensures { result ≡ is_left clock acceptance ttr }
 {
-    if clock::time_left(BitTime(clock), BitTime(acceptance), BitTime(ttr)) {
-        return 1;
-    }
-    0
+    u8::from(clock::time_left(BitTime(clock), BitTime(acceptance), BitTime(ttr)))
 }
 
 // NS of a station, or 255 if it is none.
@@ -106,9 +98,10 @@ pub extern "C" fn parts_next(masters: &[u8; 127], ts: u8) -> u8
     ensures { result ≡ nexts masters.now ts }
 {
     if 126 < ts {
-        return 255;
+        255
+    } else {
+        ring::next(masters, Address(ts)).0
     }
-    ring::next(masters, Address(ts)).0
 }
 
 // PS of a station at the start, or 255 if it is none.
@@ -117,9 +110,10 @@ pub extern "C" fn parts_previous(masters: &[u8; 127], ts: u8) -> u8
     ensures { result ≡ previouses masters.now ts }
 {
     if 126 < ts {
-        return 255;
+        255
+    } else {
+        ring::previous(masters, Address(ts)).0
     }
-    ring::previous(masters, Address(ts)).0
 }
 
 // A station enters the set, or leaves it; an address that no station has changes nothing.

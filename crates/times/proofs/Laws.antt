@@ -5,7 +5,7 @@ use native.Mathlib.Omega.{arith}
 use Rattle.choice.specs.Choice.{pick, less, said}
 use Rattle.times.specs.declared.Settings.{Settings}
 use Rattle.times.specs.declared.Times.{Times}
-use Rattle.times.specs.declared.Reckoned.TheVariants.{Refused, Reckon}
+use Rattle.times.specs.Times.{Refused, Reckon}
 use Rattle.times.specs.Times.{outside, tsm, tid1, tid2, tsl, tto, too_long, unruly_delays, unruly, times_of}
 use Rattle.times.specs.Times.{reckoned, standard}
 use Rattle.times.specs.Heeding.{Heeds, slow}

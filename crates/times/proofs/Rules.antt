@@ -50,3 +50,5 @@ ruly-retries s e = false-less 15 s.retries.0 (unrefused _ _ (unrefused _ _ (unre
 -- 2 TS TSL is small
 pub small_product : (ts slot : ℕ) → ts ≤ 126 → slot ≤ 197383 → 2 * ts * slot ≤ 252 * 197383
 small_product ts slot h g = mul-le-mul {n₁ = 2 * ts} {m₁ = slot} {n₂ = 252} {m₂ = 197383} (omega arith) g
+
+pub ruleset small_settings = (small-delays, ruly-small)

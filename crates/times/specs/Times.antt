@@ -1,11 +1,11 @@
 -- Document 01, "Times": settings and their rules, the times that follow from them, and the wait of each sending; with
 -- document 02, order 1: TSDI, and Tid1 that heeds the responder. Assumes nothing.
-use Rattle.std.specs.Prelude.{ℕ, ◌+◌, ◌*◌, ◌≤◌, max, Bool, true, false}
+use Rattle.std.specs.Prelude.{ℕ, ◌+◌, ◌*◌, ◌≤◌, max, Bool, true, false, Result, Ok, Err}
 use Rattle.choice.specs.Choice.{pick, less, said}
+use Rattle.refusal.specs.declared.Refusal.{Refusal}
+use Rattle.refusal.specs.Refusal.{number}
 use Rattle.times.specs.declared.Settings.{Settings}
 use Rattle.times.specs.declared.Times.{Times}
-use Rattle.times.specs.declared.Reckoned.{Reckoned}
-use Rattle.times.specs.declared.Reckoned.TheVariants.{Refused, Reckon}
 use Rattle.times.specs.declared.Sending.{Sending}
 use Rattle.times.specs.declared.Sending.TheVariants.{Reply, AfterSdn, Other}
 
@@ -68,6 +68,16 @@ times_of s ts =
       tsl = record { 0 = tsl s };
       tto = record { 0 = tto s ts };
     }
+
+-- what reckoning the times gives: the number of the refusal, or the times
+pub data Reckoned : Type 0 where
+  Refused : ℕ → Reckoned
+  Reckon : Times → Reckoned
+
+-- the same as the station answers it
+unfoldable pub told : Result Times Refusal → Reckoned
+told (Ok t) = Reckon t
+told (Err r) = Refused (number r)
 
 -- refusal 20, "setting, TS over 126 .. out of rule", or the times
 unfoldable pub reckoned : Settings → ℕ → Reckoned

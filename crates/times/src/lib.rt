@@ -1,22 +1,23 @@
 // The times of a station: its settings, what follows from them and the wait of each sending. Nothing here knows a phase
 // or a frame. Assumes nothing.
-#![tactic(auto)]
+#![tactic(auto, unfolding(choice::specs::Choice::pick, choice::specs::Choice::less, choice::specs::Choice::said, crate::specs::Times::outside, crate::specs::Times::tsm, crate::specs::Times::tid1, crate::specs::Times::tid2, crate::specs::Times::tsl, crate::specs::Times::too_long, crate::specs::Times::standard, crate::specs::Times::wait_of))]
 
-ghost use Rattle.std.specs.Prelude.{◌≡◌, ◌+◌, ◌≤◌, max};
+ghost use Rattle.std.specs.Prelude.{◌≡◌, ◌+◌, ◌≤◌};
 ghost use Rattle.times.specs.Times.{Small, unruly_delays, too_long, times_of, reckoned, wait_of};
 ghost use Rattle.times.specs.Times.{outside as times_outside, tsm as times_tsm, tid1 as times_tid1};
 ghost use Rattle.times.specs.Times.{tid2 as times_tid2, tsl as times_tsl, tto as times_tto};
-ghost use Rattle.times.specs.Times.{unruly as times_unruly, standard as times_standard};
+ghost use Rattle.times.specs.Times.{unruly as times_unruly, standard as times_standard, told as times_told};
 
 use clock::BitTime;
 use frame::Address;
+use refusal::Refusal;
 
 // A count.
-#[derive(Clone, Copy)]
+#[derive(Clone, Copy, Debug, PartialEq, Eq)]
 pub struct Count(pub u32);
 
 // A station's settings, as offered: each is wide enough that an out-of-rule value can be refused.
-#[derive(Clone, Copy)]
+#[derive(Clone, Copy, Debug, PartialEq, Eq)]
 pub struct Settings {
     pub tset: BitTime,
     pub tqui: BitTime,
@@ -29,7 +30,7 @@ pub struct Settings {
 }
 
 // What is being sent, as its wait goes by it: a reply, a request or token after an SDN of this hold, or any other.
-#[derive(Clone, Copy)]
+#[derive(Clone, Copy, Debug, PartialEq, Eq)]
 pub enum Sending {
     Reply,
     AfterSdn,
@@ -56,7 +57,7 @@ pub fn standard() -> Settings
 }
 
 // The times that follow from settings.
-#[derive(Clone, Copy)]
+#[derive(Clone, Copy, Debug, PartialEq, Eq)]
 pub struct Times {
     pub tsm: BitTime,
     pub tid1: BitTime,
@@ -65,29 +66,10 @@ pub struct Times {
     pub tto: BitTime,
 }
 
-// What reckoning the times gives: refusal 20, or the times.
-#[derive(Clone, Copy)]
-pub enum Reckoned {
-    Refused(u8),
-    Reckon(Times),
-}
-
 fn outside(n: u32, least: u32, most: u32) -> bool
     ensures { result ≡ times_outside n least most }
 {
-    if n < least {
-        return true;
-    }
-    if most < n {
-        return true;
-    }
-    false
-}
-
-fn larger(a: u32, b: u32) -> u32
-    ensures { result ≡ max a b }
-{
-    if a < b { b } else { a }
+    !(least..=most).contains(&n)
 }
 
 // TSM, Tid1, Tid2 and TSL of settings whose sums are small.
@@ -110,21 +92,21 @@ fn tid1(s: Settings) -> u32
     requires { Small s }
     ensures { (result ≡ times_tid1 s) × (result ≤ 65535) }
 {
-    larger(line(s), larger(s.mintsdr.0, s.tsdi.0))
+    line(s).max(s.mintsdr.0).max(s.tsdi.0)
 }
 
 fn tid2(s: Settings) -> u32
     requires { Small s }
     ensures { result ≡ times_tid2 s }
 {
-    larger(line(s), s.maxtsdr.0)
+    line(s).max(s.maxtsdr.0)
 }
 
 fn tsl(s: Settings) -> u32
     requires { Small s }
     ensures { (result ≡ times_tsl s) × (result ≤ 197383) }
 {
-    2 * s.ttd.0 + 11 + tsm(s) + larger(s.maxtsdr.0, tid1(s))
+    2 * s.ttd.0 + 11 + tsm(s) + s.maxtsdr.0.max(tid1(s))
 }
 
 // Whether TSL is over its bound.
@@ -132,65 +114,36 @@ fn too_long(s: Settings) -> bool
     requires { Small s }
     ensures { result ≡ too_long s }
 {
-    if 65535 < tsl(s) {
-        return true;
-    }
-    false
+    65535 < tsl(s)
 }
 
 // Whether the delays of the line and of its stations are out of rule.
+#[tactic(auto, unfolding(choice::specs::Choice::pick, choice::specs::Choice::less, choice::specs::Choice::said, crate::specs::Times::unruly_delays))]
 fn unruly_delays(s: Settings) -> bool
     ensures { result ≡ unruly_delays s }
 {
-    let tset = s.tset.0;
-    let tqui = s.tqui.0;
-    let least = s.mintsdr.0;
-    let most = s.maxtsdr.0;
-    let ttd = s.ttd.0;
-    if outside(tset, 20, 255) {
-        return true;
-    }
-    if 255 < tqui {
-        return true;
-    }
-    if outside(least, 20, 65535) {
-        return true;
-    }
-    if least <= tqui {
-        return true;
-    }
-    if outside(most, least, 65535) {
-        return true;
-    }
-    if 65535 < ttd {
-        return true;
-    }
-    false
+    outside(s.tset.0, 20, 255)
+        || 255 < s.tqui.0
+        || outside(s.mintsdr.0, 20, 65535)
+        || s.mintsdr.0 <= s.tqui.0
+        || outside(s.maxtsdr.0, s.mintsdr.0, 65535)
+        || 65535 < s.ttd.0
 }
 
 // Whether settings are out of rule.
+#[tactic(auto, using(crate::proofs::Rules::small_settings), unfolding(choice::specs::Choice::pick, choice::specs::Choice::less, choice::specs::Choice::said, crate::specs::Times::unruly))]
 pub fn unruly(s: Settings) -> bool
     ensures { result ≡ times_unruly s }
 {
-    let ttr = s.ttr.0;
-    let retries = s.retries.0;
-    let tsdi = s.tsdi.0;
-    if unruly_delays(s) {
-        return true;
-    }
-    if outside(ttr, 20, 16777215) {
-        return true;
-    }
-    if 15 < retries {
-        return true;
-    }
-    if 65535 < tsdi {
-        return true;
-    }
-    too_long(s)
+    unruly_delays(s)
+        || outside(s.ttr.0, 20, 16777215)
+        || 15 < s.retries.0
+        || 65535 < s.tsdi.0
+        || too_long(s)
 }
 
 // The times of a station whose sums are small.
+#[tactic(auto, using(crate::proofs::Rules::small_product), unfolding(crate::specs::Times::times_of, crate::specs::Times::tto))]
 fn times_of(s: Settings, ts: Address) -> Times
     requires { Small s × (ts.0 ≤ 126) }
     ensures { result ≡ times_of s ts.0 }
@@ -201,21 +154,19 @@ fn times_of(s: Settings, ts: Address) -> Times
         tid1: BitTime(tid1(s)),
         tid2: BitTime(tid2(s)),
         tsl: BitTime(slot),
-        tto: BitTime(6 * slot + 2 * (ts.0 as u32) * slot),
+        tto: BitTime(6 * slot + 2 * u32::from(ts.0) * slot),
     }
 }
 
 // The times of a station with an address.
-pub fn reckon(s: Settings, ts: Address) -> Reckoned
-    ensures { result ≡ reckoned s ts.0 }
+#[tactic(auto, using(crate::proofs::Rules::small_settings), unfolding(choice::specs::Choice::pick, choice::specs::Choice::less, choice::specs::Choice::said, crate::specs::Times::reckoned, crate::specs::Times::told, refusal::specs::Refusal::number))]
+pub fn reckon(s: Settings, ts: Address) -> Result<Times, Refusal>
+    ensures { times_told result ≡ reckoned s ts.0 }
 {
-    if unruly(s) {
-        return Reckoned::Refused(20);
+    if unruly(s) || 126 < ts.0 {
+        return Err(Refusal::Setting);
     }
-    if 126 < ts.0 {
-        return Reckoned::Refused(20);
-    }
-    Reckoned::Reckon(times_of(s, ts))
+    Ok(times_of(s, ts))
 }
 
 // The wait of a sending.

@@ -1,21 +1,16 @@
 -- `records::take` meets its contract: refused, or the data put at the place taken.
-use mathlib.Core.Path.{refl}
-use Rattle.choice.proofs.Rules.{if-same, unless-same}
-use Rattle.records.specs.Records.{filled}
-use Rattle.records.proofs.Laws.{room_for}
+use mathlib.Core.Path.{sym, ◌∙◌}
+use Rattle.std.proofs.lemmas.Result.{err_from_is_err_and}
+use Rattle.records.proofs.Laws.{room_for, filled-err, filled-ok}
 use Rattle.records.proofs.take.Goals as goal
 
-pub returns-then-t-ne0 : goal.returns-then-t-ne0
-unfolding filled
-returns-then-t-ne0 c =
-    (c.take-t.ensures, unless-same _ c.if-t-ne0.true refl)
+pub returns-in_err-t : goal.returns-in_err-t
+returns-in_err-t c =
+    let p = err_from_is_err_and c.from_residual.result c.from_residual.ensures.1 in
+    rw (p.1, p.2) (c.in_err-t.ensures, sym (filled-err _ _ _ _ _))
 
 pub fill-requires : goal.fill-requires
-fill-requires c =
-    room_for _ _ _ c.args.x.now c.args.area.now c.requires.0 c.requires.1
-    c.take-t.ensures c.if-t-ne0.false
+fill-requires c = room_for _ _ _ _ c.args.x.now c.args.area.now c.requires.0 c.requires.1 c.in_ok-t.ensures
 
 pub returns : goal.returns
-unfolding filled
-returns c =
-    (c.take-t.ensures, if-same _ c.if-t-ne0.false c.fill.ensures)
+returns c = (c.in_ok-t.ensures, c.fill.ensures ∙ sym (filled-ok _ _ _ _ _))

@@ -1,28 +1,24 @@
 -- `rows::submit` meets its contract: refused, or the record and its data put at the place taken.
+use Rattle.std.proofs.lemmas.Result.{err_from_is_err_and}
 use Rattle.rows.specs.Rows.{submitted}
-use Rattle.rows.proofs.Submitted.{stored_refused, stored-taken, room}
+use Rattle.rows.proofs.Submitted.{stored-err, stored-ok, room_of}
 use Rattle.rows.proofs.submit.Goals as goal
 
-pub returns-then-t-ne0 : goal.returns-then-t-ne0
+pub returns-in_err-t : goal.returns-in_err-t
 unfolding submitted
-returns-then-t-ne0 c =
-    rw (← c.take-t.ensures) (stored_refused _ _ _ _ c.if-t-ne0.true)
+returns-in_err-t c =
+    let p = err_from_is_err_and c.from_residual.result c.from_residual.ensures.1 in
+    rw (p.1, p.2, ← c.in_err-t.ensures) (stored-err _ _ _ _ _ _)
 
 pub put-requires : goal.put-requires
 put-requires c =
-    (room _ _ _ c.args.x.now _ c.args.area.now c.requires.0 c.requires.1
-    c.take-t.ensures c.if-t-ne0.false).record-fits
+    (room_of _ _ _ _ c.args.x.now _ c.args.area.now c.requires.0 c.requires.1 c.in_ok-t.ensures).record-fits
 
 pub fill-requires : goal.fill-requires
 fill-requires c =
-    let h =
-    room _ _ _ c.args.x.now c.args.row.now _ c.requires.0 c.requires.1
-    c.take-t.ensures c.if-t-ne0.false
-    in
+    let h = room_of _ _ _ _ c.args.x.now c.args.row.now _ c.requires.0 c.requires.1 c.in_ok-t.ensures in
     (h.data-fit, h.short)
 
 pub returns : goal.returns
 unfolding submitted
-returns c =
-    rw (← c.take-t.ensures)
-    (stored-taken _ _ _ _ c.if-t-ne0.false c.put.ensures c.fill.ensures)
+returns c = rw (← c.in_ok-t.ensures) (stored-ok _ _ _ _ _ _ c.put.ensures c.fill.ensures)

@@ -6,8 +6,8 @@ use Rattle.choice.specs.Choice.{pick, said}
 use Rattle.choice.proofs.Rules.{is_said}
 use Rattle.times.specs.declared.Settings.{Settings}
 use Rattle.times.specs.declared.Times.{Times}
-use Rattle.times.specs.declared.Reckoned.{Reckoned}
-use Rattle.times.specs.declared.Reckoned.TheVariants.{Refused, Reckon}
+use Rattle.times.specs.Times.{Reckoned}
+use Rattle.times.specs.Times.{Refused, Reckon}
 use Rattle.times.specs.Times.{Small, unruly, reckoned}
 use Rattle.times.proofs.Rules.{ruly-small}
 
@@ -20,3 +20,5 @@ unrefused false z t e = refl
 pub reckon-small : (s : Settings) (ts : ℕ) (t : Times) → Reckon t ≡ reckoned s ts → Small s
 unfolding reckoned
 reckon-small s ts t e = ruly-small s (is_said (unrefused (said (unruly s)) _ t e))
+
+pub ruleset reckoned_small = (reckon-small)
