@@ -1,10 +1,10 @@
 // The decisions of a hold as functions of values: the time that is left, the choice of what is sent, and what each act
 // makes of the core. Nothing here touches a row or an output. Assumes nothing.
-#![tactic(auto)]
+#![tactic(auto, unfolding(choice::specs::Choice::pick, choice::specs::Choice::less, choice::specs::Choice::same, choice::specs::Choice::said, state::specs::World::with_doing, state::specs::World::with_hold, state::specs::World::with_stranger, state::specs::World::with_ps, state::specs::World::with_queue, state::specs::World::queue_of, state::specs::Request::after_last, state::specs::Request::wait_for, state::specs::Request::sending, state::specs::Request::once, state::specs::Request::status_of, state::specs::Pass::passing, state::specs::Hold::left, state::specs::Hold::choice, state::specs::Hold::accepting, state::specs::Hold::resting, state::specs::Hold::beginning))]
 
 ghost use Rattle.std.specs.Prelude.{◌≡◌, ◌<◌};
 ghost use Rattle.times.specs.Times.{Small};
-ghost use Rattle.state.specs.World.{with_doing, with_hold, with_stranger, with_ps, with_queue, queue_of};
+ghost use Rattle.state.specs.World.{with_doing, with_stranger, with_ps, with_queue, queue_of};
 ghost use Rattle.state.specs.Request.{after_last, wait_for, sending as request_sending, once as request_once, status_of};
 ghost use Rattle.state.specs.Pass.{passing as pass_passing};
 ghost use Rattle.state.specs.Hold.{left as hold_left, choice as hold_choice, accepting as hold_accepting};
@@ -20,48 +20,27 @@ use times::Sending;
 pub fn with_doing(d: Doing, c: Core) -> Core
     ensures { result ≡ with_doing d c }
 {
-    let mut core = c;
-    core.doing = d;
-    core
-}
-
-fn with_hold(h: Hold, c: Core) -> Core
-    ensures { result ≡ with_hold h c }
-{
-    let mut core = c;
-    core.hold = h;
-    core
+    Core { doing: d, ..c }
 }
 
 pub fn with_stranger(a: Address, c: Core) -> Core
     ensures { result ≡ with_stranger a c }
 {
-    let mut core = c;
-    core.stranger = a;
-    core
+    Core { stranger: a, ..c }
 }
 
 pub fn with_ps(a: Address, c: Core) -> Core
     ensures { result ≡ with_ps a c }
 {
-    let mut core = c;
-    core.ps = a;
-    core
+    Core { ps: a, ..c }
 }
 
 pub fn with_queue(p: Priority, q: Queue, c: Core) -> Core
     ensures { result ≡ with_queue p q c }
 {
-    let mut core = c;
     match p {
-        Priority::High => {
-            core.high = q;
-            core
-        }
-        Priority::Low => {
-            core.low = q;
-            core
-        }
+        Priority::High => Core { high: q, ..c },
+        Priority::Low => Core { low: q, ..c },
     }
 }
 
@@ -79,55 +58,30 @@ pub fn queue_of(p: Priority, c: Core) -> Queue
 fn left(c: Core, clock: BitTime) -> bool
     ensures { result ≡ hold_left c clock.0 }
 {
-    let h = c.hold;
-    let s = c.settings;
-    if h.begun <= 1 {
-        return false;
-    }
-    clock::time_left(clock, h.before, s.ttr)
+    1 < c.hold.begun && clock::time_left(clock, c.hold.before, c.settings.ttr)
 }
 
 // What a hold goes on with, at its start or later.
 pub fn choice(starts: bool, c: Core, clock: BitTime) -> Choice
     ensures { result ≡ hold_choice starts c clock.0 }
 {
-    let high = c.high;
-    let low = c.low;
     let time = left(c, clock);
-    if 0 < high.unconfirmed {
-        if starts {
-            return Choice::Serve(Priority::High);
-        }
-        if time {
-            return Choice::Serve(Priority::High);
-        }
-        return Choice::PassOn;
+    if 0 < c.high.unconfirmed && (starts || time) {
+        Choice::Serve(Priority::High)
+    } else if 0 < c.low.unconfirmed && time {
+        Choice::Serve(Priority::Low)
+    } else {
+        Choice::PassOn
     }
-    if time {
-        if 0 < low.unconfirmed {
-            return Choice::Serve(Priority::Low);
-        }
-        return Choice::PassOn;
-    }
-    Choice::PassOn
 }
 
 fn accepting(clock: BitTime, h: Hold) -> Hold
     ensures { result ≡ hold_accepting clock.0 h }
 {
-    let before = h.acceptance;
-    let begun = h.begun;
-    if begun < 2 {
-        return Hold {
-            acceptance: clock,
-            before,
-            begun: begun + 1,
-        };
-    }
     Hold {
         acceptance: clock,
-        before,
-        begun: 2,
+        before: h.acceptance,
+        begun: h.begun.min(1) + 1,
     }
 }
 
@@ -135,12 +89,11 @@ fn accepting(clock: BitTime, h: Hold) -> Hold
 pub fn resting(d: Doing) -> Doing
     ensures { result ≡ hold_resting d }
 {
-    let served = d.served;
     Doing {
         phase: Phase::Idle,
-        served,
         sendings: 0,
         sdn: false,
+        ..d
     }
 }
 
@@ -148,30 +101,24 @@ pub fn resting(d: Doing) -> Doing
 pub fn beginning(clock: BitTime, c: Core) -> Core
     ensures { result ≡ hold_beginning clock.0 c }
 {
-    let h = c.hold;
-    let d = c.doing;
-    let rested = with_doing(resting(d), c);
-    let held = with_hold(accepting(clock, h), rested);
-    with_stranger(Address(state::NOBODY), held)
+    Core {
+        stranger: Address(state::NOBODY),
+        doing: resting(c.doing),
+        hold: accepting(clock, c.hold),
+        ..c
+    }
 }
 
 // A request of a service goes out for the first time.
 pub fn sending(p: Priority, service: u8) -> Doing
     ensures { result ≡ request_sending p service }
 {
-    if service == request::SDN {
-        return Doing {
-            phase: Phase::Sdn,
-            served: p,
-            sendings: 1,
-            sdn: true,
-        };
-    }
+    let sdn = service == request::SDN;
     Doing {
-        phase: Phase::Awaited,
+        phase: if sdn { Phase::Sdn } else { Phase::Awaited },
         served: p,
         sendings: 1,
-        sdn: false,
+        sdn,
     }
 }
 
@@ -180,13 +127,9 @@ pub fn once(d: Doing) -> Doing
     requires { d.sendings < 255 }
     ensures { result ≡ request_once d }
 {
-    let phase = d.phase;
-    let served = d.served;
     Doing {
-        phase,
-        served,
         sendings: d.sendings + 1,
-        sdn: d.sdn,
+        ..d
     }
 }
 
@@ -194,32 +137,23 @@ pub fn once(d: Doing) -> Doing
 pub fn passing(ns: Address, c: Core) -> Doing
     ensures { result ≡ pass_passing ns.0 c }
 {
-    let d = c.doing;
-    let served = d.served;
-    if ns.0 == c.ts.0 {
-        return Doing {
-            phase: Phase::ToSelf,
-            served,
-            sendings: 1,
-            sdn: false,
-        };
-    }
+    let own = ns.0 == c.ts.0;
     Doing {
-        phase: Phase::Check,
-        served,
+        phase: if own { Phase::ToSelf } else { Phase::Check },
         sendings: 1,
         sdn: false,
+        ..c.doing
     }
 }
 
 fn after_last(c: Core) -> Sending
     ensures { result ≡ after_last c }
 {
-    let d = c.doing;
-    if d.sdn {
-        return Sending::AfterSdn;
+    if c.doing.sdn {
+        Sending::AfterSdn
+    } else {
+        Sending::Other
     }
-    Sending::Other
 }
 
 // The wait of a sending, and of one that follows this hold's last.
@@ -227,8 +161,7 @@ pub fn wait_for(c: Core, s: Sending) -> BitTime
     requires { Small c.settings }
     ensures { result.0 ≡ wait_for c s }
 {
-    let settings = c.settings;
-    times::wait(settings, s)
+    times::wait(c.settings, s)
 }
 
 pub fn wait_after(c: Core) -> BitTime

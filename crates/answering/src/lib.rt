@@ -3,8 +3,7 @@
 #![tactic(auto)]
 
 ghost use Rattle.std.specs.Prelude.{◌≡◌};
-ghost use Rattle.choice.specs.Choice.{same, either};
-ghost use Rattle.state.specs.Answering.{Asked, memory, answer_as, answer_to};
+ghost use Rattle.state.specs.Answering.{Asked, memory};
 ghost use Rattle.state.specs.Answering.{answer as answering_answer};
 ghost use Rattle.state.specs.Told.{Says};
 
@@ -15,145 +14,56 @@ mod news;
 mod reply;
 
 use control::Control;
-use frame::{Head, Part};
+use memory::Bits;
 use state::{Asks, Indication, Kept, Responder, Spoken};
 
-fn answer_as<'a>(
-    a: Asks,
-    fcb: bool,
-    fcv: bool,
-    responder: Responder,
-    points: &[u8; 64],
-    k: Kept,
-    octets: &mut [u8; 255],
-    room: bool,
-    high: &'a [u8],
-    low: &'a [u8],
-    h: Head,
-    p: Part,
-    out: &mut [u8],
-) -> Spoken
-    requires { Asked responder k h high.now low.now out.old }
-    ensures says { Says
-        (answer_as a responder points.now (memory k octets.old) fcb fcv room high.now
-        low.now h p).memory.kept
-        (answer_as a responder points.now (memory k octets.old) fcb fcv room high.now
-        low.now h p).events out.old result out.new }
-    ensures octets_after { octets.new
-        ≡ (answer_as a responder points.now (memory k octets.old) fcb fcv room high.now
-        low.now h p).memory.octets }
-{
-    let sda;
-    match a {
-        Asks::Sda => {
-            sda = true;
-        }
-        Asks::Srd => {
-            sda = false;
-        }
-        Asks::Sdn => {
-            return answers::answer_sdn(points, k, room, h, p);
-        }
-        Asks::Status => {
-            return answers::answer_status(responder, k, h, out);
-        }
-        Asks::Never => {
-            return answers::silent(k, Indication::None);
-        }
-    }
-    counted::answer_counted(
-        responder, points, k, octets, sda, fcb, fcv, room, high, low, h, p, out,
-    )
-}
-
-fn answer_to<'a>(
-    control: Control,
-    responder: Responder,
-    points: &[u8; 64],
-    k: Kept,
-    octets: &mut [u8; 255],
-    room: bool,
-    high: &'a [u8],
-    low: &'a [u8],
-    h: Head,
-    p: Part,
-    out: &mut [u8],
-) -> Spoken
-    requires { Asked responder k h high.now low.now out.old }
-    ensures says { Says
-        (answer_to control responder points.now (memory k octets.old) room high.now
-        low.now h p).memory.kept
-        (answer_to control responder points.now (memory k octets.old) room high.now
-        low.now h p).events out.old result out.new }
-    ensures octets_after { octets.new
-        ≡ (answer_to control responder points.now (memory k octets.old) room high.now
-        low.now h p).memory.octets }
-{
-    match control {
-        Control::Request { service, fcb, fcv } => {
-            answer_as(
-                answers::asks(service),
-                fcb,
-                fcv,
-                responder,
-                points,
-                k,
-                octets,
-                room,
-                high,
-                low,
-                h,
-                p,
-                out,
-            )
-        }
-        Control::Reply { kind: _, code: _ } => answers::silent(k, Indication::None),
-    }
-}
-
-// Whether an address is that of TS or of all.
-fn ours(destination: u8, ts: u8) -> bool
-    ensures { result ≡ either (same destination ts) (same destination 127) }
-{
-    if destination == ts {
-        return true;
-    }
-    if destination == 127 {
-        return true;
-    }
-    false
+// What the caller gives to an answer: whether it has room for an indication, and its updates, the high and the low one.
+#[derive(Clone, Copy)]
+pub struct Caller<'a> {
+    pub room: bool,
+    pub high: &'a [u8],
+    pub low: &'a [u8],
 }
 
 // Answers a request to TS or to all.
-pub fn answer<'a>(
+#[tactic(auto, unfolding(choice::specs::Choice::pick, choice::specs::Choice::same, state::specs::Answering::answered, state::specs::Answering::sdn_events, state::specs::Answering::answer_as, state::specs::Answering::answer_to, state::specs::Answering::answer))]
+pub fn answer(
     responder: Responder,
     points: &[u8; 64],
     k: Kept,
     octets: &mut [u8; 255],
-    room: bool,
-    high: &'a [u8],
-    low: &'a [u8],
-    h: Head,
-    p: Part,
+    caller: Caller,
+    request: Indication,
     out: &mut [u8],
 ) -> Spoken
-    requires { Asked responder k h high.now low.now out.old }
+    requires { Asked responder k request.head caller.high.now caller.low.now out.old }
     ensures says { Says
-        (answering_answer responder points.now (memory k octets.old) room high.now
-        low.now h p).memory.kept
-        (answering_answer responder points.now (memory k octets.old) room high.now
-        low.now h p).events out.old result out.new }
+        (answering_answer responder points.now (memory k octets.old) caller.entry.room caller.entry.high.now
+        caller.entry.low.now request.head request.part).memory.kept
+        (answering_answer responder points.now (memory k octets.old) caller.entry.room caller.entry.high.now
+        caller.entry.low.now request.head request.part).events out.old result out.new }
     ensures octets_after { octets.new
-        ≡ (answering_answer responder points.now (memory k octets.old) room high.now
-        low.now h p).memory.octets }
+        ≡ (answering_answer responder points.now (memory k octets.old) caller.entry.room caller.entry.high.now
+        caller.entry.low.now request.head request.part).memory.octets }
 {
-    let control = h.control;
-    let destination = h.destination;
-    let ts = responder.ts;
-    if ours(destination.0, ts.0) {
-        return answer_to(
-            control, responder, points, k, octets, room, high, low, h, p, out,
-        );
+    let h = request.head;
+    let ours = h.destination.0 == responder.ts.0 || h.destination.0 == 127;
+    let (asks, bits) = match h.control {
+        Control::Request { service, fcb, fcv } if ours => (
+            answers::asks(service),
+            Bits { fcb, fcv },
+        ),
+        _ => return answers::silent(k, None),
+    };
+    match asks {
+        Asks::Sda => counted::answer_counted(
+            responder, points, k, octets, true, bits, caller, request, out,
+        ),
+        Asks::Srd => counted::answer_counted(
+            responder, points, k, octets, false, bits, caller, request, out,
+        ),
+        Asks::Sdn => answers::answer_sdn(points, k, caller.room, request),
+        Asks::Status => answers::answer_status(responder, k, h, out),
+        Asks::Never => answers::silent(k, None),
     }
-    answers::silent(k, Indication::None)
 }

@@ -1,58 +1,36 @@
 // What a new SDA or SRD is given: whether its access point is active or 63, which update is shown, and by these and the
 // caller's room the reply and whether it is indicated. Assumes nothing.
-ghost use Rattle.std.specs.Prelude.{◌≡◌, true, false, get_or};
-ghost use Rattle.choice.specs.Choice.{pick, same, less};
-ghost use Rattle.state.specs.Answering.{new_sda, new_srd, new_answer};
+ghost use Rattle.std.specs.Prelude.{◌≡◌, length};
+ghost use Rattle.state.specs.Answering.{new_answer};
 ghost use Rattle.state.specs.Answering.{active as answering_active, reserved as answering_reserved};
-ghost use Rattle.state.specs.Answering.{shown as answering_shown, new as answering_new};
+ghost use Rattle.state.specs.Answering.{shown as answering_shown};
 
+use super::Caller;
 use control::Code;
-use frame::Access;
+use frame::Point;
 use state::{Given, New};
 
-fn one(x: u8) -> bool
-    ensures { result ≡ same x 1 }
-{
-    if x == 1 { true } else { false }
-}
-
-fn active_at(points: &[u8; 64], point: u8) -> bool
-    ensures { result ≡ pick (less point 63) (same (get_or points.now point 0) 1) false }
-{
-    let at = frame::wide(point);
-    if at < 63 {
-        return one(points[at]);
-    }
-    false
-}
-
 // Whether an access point is active.
-pub fn active(points: &[u8; 64], a: Access) -> bool
+#[tactic(auto, unfolding(choice::specs::Choice::pick, choice::specs::Choice::less, choice::specs::Choice::same, state::specs::Answering::active))]
+pub fn active(points: &[u8; 64], a: Option<Point>) -> bool
     ensures { result ≡ answering_active points.now a }
 {
     match a {
-        Access::None => one(points[63]),
-        Access::At(p) => active_at(points, p.0),
+        None => points[63] == 1,
+        Some(p) => p.0 < 63 && points[usize::from(p.0)] == 1,
     }
-}
-
-fn top(point: u8) -> bool
-    ensures { result ≡ same point 63 }
-{
-    if point == 63 { true } else { false }
 }
 
 // Whether an access point is 63.
-pub fn reserved(a: Access) -> bool
+#[tactic(auto, unfolding(choice::specs::Choice::same, state::specs::Answering::reserved))]
+pub fn reserved(a: Option<Point>) -> bool
     ensures { result ≡ answering_reserved a }
 {
-    match a {
-        Access::None => false,
-        Access::At(p) => top(p.0),
-    }
+    a.is_some_and(|p| p.0 == 63)
 }
 
 // The update that is shown: the high one, or else the low one.
+#[tactic(auto, unfolding(choice::specs::Choice::pick, choice::specs::Choice::less, state::specs::Answering::shown))]
 pub fn shown<'a>(high: &'a [u8], low: &'a [u8]) -> &'a [u8]
     ensures { result.now ≡ answering_shown high.now low.now }
 {
@@ -62,53 +40,11 @@ pub fn shown<'a>(high: &'a [u8], low: &'a [u8]) -> &'a [u8]
     low
 }
 
-fn new_sda(room: bool) -> New
-    ensures { result ≡ new_sda room }
-{
-    if room {
-        return New {
-            given: Given::Acknowledged,
-            indicated: true,
-        };
-    }
-    New {
-        given: Given::Coded(Code::Rr),
-        indicated: false,
-    }
-}
-
-// With an update, by whether there is room: the code of one, or of the other.
-fn new_code(room: bool, with: Code, without: Code) -> New
+// The answer to a new SDA or SRD: with room one thing is given and the request is indicated, without room another.
+#[tactic(auto, unfolding(choice::specs::Choice::pick, choice::specs::Choice::less, state::specs::Answering::new, state::specs::Answering::new_sda, state::specs::Answering::new_srd, state::specs::Answering::new_answer))]
+pub fn new_answer(active: bool, sda: bool, caller: Caller) -> New
     ensures { result
-        ≡ pick room (answering_new (Given.Coded with) true) (answering_new (Given.Coded without) false) }
-{
-    if room {
-        return New {
-            given: Given::Coded(with),
-            indicated: true,
-        };
-    }
-    New {
-        given: Given::Coded(without),
-        indicated: false,
-    }
-}
-
-fn new_srd(room: bool, high: usize, low: usize) -> New
-    ensures { result ≡ new_srd room high low }
-{
-    if 0 < high {
-        return new_code(room, Code::Dh, Code::Rdh);
-    }
-    if 0 < low {
-        return new_code(room, Code::Dl, Code::Rdl);
-    }
-    new_sda(room)
-}
-
-// The answer to a new SDA or SRD.
-pub fn new_answer(active: bool, sda: bool, room: bool, high: usize, low: usize) -> New
-    ensures { result ≡ new_answer active sda room high low }
+        ≡ new_answer active sda caller.entry.room (length caller.entry.high.now) (length caller.entry.low.now) }
 {
     if !active {
         return New {
@@ -116,8 +52,16 @@ pub fn new_answer(active: bool, sda: bool, room: bool, high: usize, low: usize) 
             indicated: false,
         };
     }
-    if sda {
-        return new_sda(room);
+    let (with, without) = if !sda && 0 < caller.high.len() {
+        (Given::Coded(Code::Dh), Code::Rdh)
+    } else if !sda && 0 < caller.low.len() {
+        (Given::Coded(Code::Dl), Code::Rdl)
+    } else {
+        (Given::Acknowledged, Code::Rr)
+    };
+    let room = caller.room;
+    New {
+        given: if room { with } else { Given::Coded(without) },
+        indicated: room,
     }
-    new_srd(room, high, low)
 }

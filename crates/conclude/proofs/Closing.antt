@@ -1,14 +1,13 @@
 -- A confirmation, by the values that the code comes by; and what is known of the core and the rows stays known. Assumes
 -- nothing.
 use Prim.Native.Nat.{ℕ, ◌<◌, ◌≤◌}
-use mathlib.Core.Path.{◌≡◌, refl, sym, ap, subst}
+use mathlib.Core.Path.{◌≡◌, refl, sym, subst}
 use mathlib.Core.List.{List, []}
 use lib.ListN.{length}
-use Rattle.request.specs.declared.Record.{Record}
 use Rattle.queue.specs.declared.Queue.{Queue}
 use Rattle.queue.specs.Queue.{AREA, confirmed}
 use Rattle.queue.proofs.Laws.{ruled-confirmed}
-use Rattle.rows.specs.Rows.{Left, left, confirm}
+use Rattle.rows.specs.Rows.{Left, confirm}
 use Rattle.rows.proofs.Check.{is-sound, sound-is}
 use Rattle.rows.proofs.Kept.{sound-confirmed}
 use Rattle.rows.proofs.Draining.{lent-confirmed}
@@ -20,26 +19,6 @@ use Rattle.state.specs.World.{Rows, Site, rows, site_of, queue_of, with_queue, r
 use Rattle.state.specs.Request.{record_in, record_of, status_of, marks_after, close_of, close}
 use Rattle.state.specs.Refusals.{Lawful, Sited, sound_in}
 use Rattle.state.specs.Told.{Closes}
-
--- ---- what the code of one queue leaves
-module _ (p : Priority) (o : Outcome) (c : Core) where
-  pub closed_in : (x row area : List ℕ) {q q' : Queue} {n : ℕ} {c' : Core} {row' area' : List ℕ} → q ≡ queue_of p c
-      → n ≡ status_of o → left q' row' area' ≡ confirm q n c.doing.sendings x row area → c' ≡ with_queue p q' c
-      → left c' row' area'
-      ≡ left (with_queue p (confirm (queue_of p c) (status_of o) c.doing.sendings x row area).answer c)
-      (confirm (queue_of p c) (status_of o) c.doing.sendings x row area).row
-      (confirm (queue_of p c) (status_of o) c.doing.sendings x row area).area
-  closed_in x row area e f g h = rw (h, ← e, ← f, ← g)
-
-  pub marked-in : (r : Rows) (m : List ℕ) {e : Record} {m' : List ℕ} → e ≡ record_in (queue_of p c) r
-      → m' ≡ marks_after o e.destination.0 m → m' ≡ marks_after o (record_in (queue_of p c) r).destination.0 m
-  marked-in r m e f = rw (← e) f
-
--- ---- and of the queue being served
-close-is : (o : Outcome) (x : List ℕ) (s : Site) (p : Priority) → s.core.doing.served ≡ p
-    → close o x s ≡ close_of p o x s
-unfolding close
-close-is o x s p e = ap (λ (y : Priority). close_of y o x s) e
 
 -- what is known, of a site
 abbrev SitedAt : Site → Type 0
@@ -69,31 +48,6 @@ module _ (o : Outcome) (x : List ℕ) (c : Core) (marks : List ℕ) (high low : 
       (rows (after Low low).row (after Low low).area)
   unfolding close_of done with_rows with_marks with_core record_of rows_of
   site-low m = refl
-
-  module _ {c' : Core} {marks' row' area' : List ℕ} where
-    pub closes-high : c.doing.served ≡ High
-        → left c' row' area'
-        ≡ left (with_queue High (after High high).answer c) (after High high).row (after High high).area
-        → marks' ≡ marks_after o (record_in (queue_of High c) high).destination.0 marks
-        → Closes o x c marks high low c' marks' (rows row' area') low
-    closes-high e f g =
-        record {
-          site =
-              λ m. rw (close-is o x (site_of c m marks high low) High e, site-high m, g)
-              (ap (λ (l : Left Core). site_of l.answer m (marks_after o (record_in (queue_of High c) high).destination.0 marks) (rows l.row l.area) low) f);
-        }
-
-    pub closes-low : c.doing.served ≡ Low
-        → left c' row' area'
-        ≡ left (with_queue Low (after Low low).answer c) (after Low low).row (after Low low).area
-        → marks' ≡ marks_after o (record_in (queue_of Low c) low).destination.0 marks
-        → Closes o x c marks high low c' marks' high (rows row' area')
-    closes-low e f g =
-        record {
-          site =
-              λ m. rw (close-is o x (site_of c m marks high low) Low e, site-low m, g)
-              (ap (λ (l : Left Core). site_of l.answer m (marks_after o (record_in (queue_of Low c) low).destination.0 marks) high (rows l.row l.area)) f);
-        }
 
   -- ---- what is known stays known
   module _ (s : Sited c high low) (n : length x ≤ AREA) where

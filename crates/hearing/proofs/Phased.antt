@@ -7,11 +7,11 @@ use Rattle.frame.specs.Reading.{read}
 use Rattle.state.specs.declared.Core.{Core}
 use Rattle.state.specs.declared.Kept.{Kept}
 use Rattle.state.specs.declared.Phase.{Phase}
-use Rattle.state.specs.declared.Phase.TheVariants.{Idle, Awaited, Sdn, Check, ToSelf}
+use Rattle.state.specs.declared.Phase.TheVariants.{Idle, Awaited, Check}
 use Rattle.state.specs.World.{Rows, World, with_core, with_doing, with_site}
 use Rattle.state.specs.Hold.{resting, rest}
 use Rattle.state.specs.Refusals.{Sited}
-use Rattle.state.specs.Calls.{called, nothing, idle_read, awaited_read, heard}
+use Rattle.state.specs.Calls.{called, idle_read, awaited_read, heard}
 use Rattle.state.specs.Told.{world_in}
 use Rattle.hearing.specs.Hears.{Listening}
 
@@ -24,14 +24,6 @@ module _ (clock : ℕ) (room : Bool) (first second s : List ℕ) (w : World) {p 
       → heard p clock room first second s w ≡ called (awaited_read clock s (read s) w.site) w
   unfolding heard
   heard-awaited e = rw e
-
-  pub heard-sdn : p ≡ Sdn → heard p clock room first second s w ≡ nothing w
-  unfolding heard
-  heard-sdn e = rw e
-
-  pub heard-self : p ≡ ToSelf → heard p clock room first second s w ≡ nothing w
-  unfolding heard
-  heard-self e = rw e
 
 -- "Any frame .. ends the check": the core rests first
 module _ (clock : ℕ) (room : Bool) (first second s : List ℕ) (c : Core) (k : Kept)

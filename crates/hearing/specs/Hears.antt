@@ -6,7 +6,7 @@ use Rattle.frame.specs.declared.Fields.TheVariants.{Frame}
 use Rattle.frame.specs.declared.Head.{Head}
 use Rattle.state.specs.declared.Core.{Core}
 use Rattle.state.specs.declared.Kept.{Kept}
-use Rattle.state.specs.declared.Heard.{Heard}
+use Rattle.state.specs.Told.{Heard}
 use Rattle.state.specs.World.{Rows, World, Called}
 use Rattle.state.specs.Answering.{UPDATE, Readable}
 use Rattle.state.specs.Refusals.{Sited}

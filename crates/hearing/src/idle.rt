@@ -1,87 +1,64 @@
 // What a frame does in Idle: a token is taken, a request is answered, and anything else is ignored. Assumes nothing.
-ghost use Rattle.std.specs.Prelude.{◌≡◌};
+ghost use Rattle.std.specs.Prelude.{◌≡◌, Ok, None};
 ghost use Rattle.frame.specs.Reading.{read as reading_read};
 ghost use Rattle.times.specs.Times.{Small};
-ghost use Rattle.state.specs.World.{rows};
 ghost use Rattle.state.specs.Calls.{responder as calls_responder, idle as calls_idle, idle_read};
+ghost use Rattle.state.specs.Told.{heard_by, high_in, low_in};
 ghost use Rattle.hearing.specs.Hears.{Hears, Listening, Sound};
 
+use answering::Caller;
 use clock::BitTime;
 use control::Kind;
-use frame::{Answer, Fields, Part};
-use state::{Core, Heard, Indication, Kept, Moved, Responder, Spoken};
+use frame::{Fields, Part};
+use state::{Core, Heard, Indication, Kept, Moved, Responder, Rows, Spoken};
 use times::Sending;
 
 // What an act on the site leaves, as what was heard.
 pub fn moved(m: Moved, kept: Kept) -> Heard
     ensures { result
-        ≡ record {
-          refused = 0;
-          core = m.core;
-          kept = kept;
-          length = m.length;
-          wait = m.wait;
-          indication =
-              Indication.None;
-        } }
+        ≡ record { core = m.core; kept = kept; length = m.length; wait = m.wait; indication = None } }
 {
-    let core = m.core;
-    let wait = m.wait;
     Heard {
-        refused: 0,
-        core,
+        core: m.core,
         kept,
         length: m.length,
-        wait,
-        indication: Indication::None,
+        wait: m.wait,
+        indication: None,
     }
 }
 
 // What is answered to a request, as what was heard.
 fn spoken(core: Core, s: Spoken) -> Heard
     ensures { result
-        ≡ record {
-          refused = 0;
-          core = core;
-          kept = s.kept;
-          length = s.length;
-          wait = s.wait;
-          indication = s.indication;
-        } }
+        ≡ record { core = core; kept = s.kept; length = s.length; wait = s.wait; indication = s.indication } }
 {
-    let kept = s.kept;
-    let wait = s.wait;
-    let indication = s.indication;
     Heard {
-        refused: 0,
         core,
-        kept,
+        kept: s.kept,
         length: s.length,
-        wait,
-        indication,
+        wait: s.wait,
+        indication: s.indication,
     }
 }
 
 // What this master answers as: TS, a station in the ring, after min TSDR.
+#[tactic(auto, unfolding(state::specs::Calls::responder))]
 fn responder(c: Core) -> Responder
     requires { Small c.settings }
     ensures { result ≡ calls_responder c }
 {
-    let ts = c.ts;
-    let wait = acts::wait_for(c, Sending::Reply);
     Responder {
-        ts,
+        ts: c.ts,
         kind: Kind::InRing,
-        wait,
+        wait: acts::wait_for(c, Sending::Reply),
     }
 }
 
 // A good frame in Idle.
-fn idle<'a>(
+#[tactic(auto, unfolding(state::specs::Calls::idle, state::specs::Calls::nothing, state::specs::Told::standing, state::specs::Told::heard_of, state::specs::Told::heard_by, state::specs::Told::telling, state::specs::Told::untold, laid::specs::Laid::laid))]
+fn idle(
     clock: BitTime,
-    room: bool,
-    first: &'a [u8],
-    second: &'a [u8],
+    caller: Caller,
     f: Fields,
     p: Part,
     c: Core,
@@ -90,57 +67,39 @@ fn idle<'a>(
     marks: &[u8; 127],
     points: &[u8; 64],
     octets: &mut [u8; 255],
-    high: &[u8],
-    harea: &[u8],
-    low: &[u8],
-    larea: &[u8],
+    rows: &Rows,
     out: &mut [u8],
 ) -> Heard
     requires { (Sound f)
-        × (Listening c k (rows high.now harea.now) (rows low.now larea.now) first.now second.now
-        out.old) }
-    ensures { Hears (calls_idle clock.0 room first.now second.now f p) c k
-        masters.old marks.now points.now octets.old
-        (rows high.now harea.now) (rows low.now larea.now)
-        out.old result masters.new marks.now octets.new
-        (rows high.now harea.now) (rows low.now larea.now)
-        out.new }
+        × (Listening c k (high_in rows.now) (low_in rows.now) caller.high.now caller.low.now out.old) }
+    ensures { Hears
+        (calls_idle clock.0 caller.entry.room caller.entry.high.now caller.entry.low.now f p) c k
+        masters.old marks.now points.now octets.old (high_in rows.now) (low_in rows.now) out.old
+        (heard_by c k (Ok result)) masters.new marks.now octets.new (high_in rows.now) (low_in rows.now) out.new }
 {
     match f {
         Fields::Token {
             destination,
             source,
         } => {
-            let m = tokens::token(
-                clock,
-                destination,
-                source,
-                c,
-                masters,
-                marks,
-                high,
-                harea,
-                low,
-                larea,
-                out,
-            );
+            let m = tokens::token(clock, destination, source, c, masters, marks, rows, out);
             moved(m, k)
         }
         Fields::Short => moved(tokens::quiet(c), k),
         Fields::Frame(h) => {
             let r = responder(c);
-            let s = answering::answer(r, points, k, octets, room, first, second, h, p, out);
+            let request = Indication { head: h, part: p };
+            let s = answering::answer(r, points, k, octets, caller, request, out);
             spoken(c, s)
         }
     }
 }
 
 // A frame in Idle.
-pub fn idle_read<'a>(
+#[tactic(auto, unfolding(state::specs::Calls::idle_read, frame::specs::Reading::answered, state::specs::Calls::nothing, state::specs::Told::standing, state::specs::Told::heard_of, state::specs::Told::heard_by, state::specs::Told::telling, state::specs::Told::untold, laid::specs::Laid::laid))]
+pub fn idle_read(
     clock: BitTime,
-    room: bool,
-    first: &'a [u8],
-    second: &'a [u8],
+    caller: Caller,
     s: &[u8],
     c: Core,
     k: Kept,
@@ -148,27 +107,19 @@ pub fn idle_read<'a>(
     marks: &[u8; 127],
     points: &[u8; 64],
     octets: &mut [u8; 255],
-    high: &[u8],
-    harea: &[u8],
-    low: &[u8],
-    larea: &[u8],
+    rows: &Rows,
     out: &mut [u8],
 ) -> Heard
-    requires { Listening c k (rows high.now harea.now) (rows low.now larea.now) first.now second.now
-        out.old }
+    requires { Listening c k (high_in rows.now) (low_in rows.now) caller.high.now caller.low.now out.old }
     ensures { Hears
-        (idle_read clock.0 room first.now second.now (reading_read s.now)) c k
-        masters.old marks.now points.now octets.old
-        (rows high.now harea.now) (rows low.now larea.now)
-        out.old result masters.new marks.now octets.new
-        (rows high.now harea.now) (rows low.now larea.now)
-        out.new }
+        (idle_read clock.0 caller.entry.room caller.entry.high.now caller.entry.low.now (reading_read s.now)) c k
+        masters.old marks.now points.now octets.old (high_in rows.now) (low_in rows.now) out.old
+        (heard_by c k (Ok result)) masters.new marks.now octets.new (high_in rows.now) (low_in rows.now) out.new }
 {
-    match read::read(s) {
-        Answer::Refused(_) => moved(tokens::quiet(c), k),
-        Answer::Read(f, p) => idle(
-            clock, room, first, second, f, p, c, k, masters, marks, points, octets, high, harea,
-            low, larea, out,
-        ),
-    }
+    let Ok((f, p)) = read::read(s) else {
+        return moved(tokens::quiet(c), k);
+    };
+    idle(
+        clock, caller, f, p, c, k, masters, marks, points, octets, rows, out,
+    )
 }

@@ -1,22 +1,23 @@
 // What a frame does in each phase. Assumes nothing.
 #![tactic(auto)]
 
-ghost use Rattle.state.specs.World.{rows};
+ghost use Rattle.std.specs.Prelude.{Ok};
 ghost use Rattle.state.specs.Calls.{heard};
+ghost use Rattle.state.specs.Told.{heard_by, high_in, low_in, SameRows};
 ghost use Rattle.phases.specs.Underway.{Underway};
 ghost use Rattle.hearing.specs.Hears.{Hears, Listening};
 
 pub mod idle;
 
+use answering::Caller;
 use clock::BitTime;
-use state::{Core, Heard, Kept, Phase};
+use state::{Core, Heard, Kept, Phase, Rows};
 
 // A frame, by the phase.
-pub fn hear<'a>(
+#[tactic(auto, unfolding(state::specs::Calls::heard, state::specs::Calls::nothing, state::specs::Told::standing, state::specs::Told::heard_of, state::specs::Told::heard_by, state::specs::Told::telling, state::specs::Told::untold, laid::specs::Laid::laid))]
+pub fn hear(
     clock: BitTime,
-    room: bool,
-    first: &'a [u8],
-    second: &'a [u8],
+    caller: Caller,
     s: &[u8],
     c: Core,
     k: Kept,
@@ -24,46 +25,27 @@ pub fn hear<'a>(
     marks: &mut [u8; 127],
     points: &[u8; 64],
     octets: &mut [u8; 255],
-    high: &mut [u8],
-    harea: &mut [u8],
-    low: &mut [u8],
-    larea: &mut [u8],
+    rows: &mut Rows,
     out: &mut [u8],
 ) -> Heard
-    requires { (Listening c k (rows high.old harea.old) (rows low.old larea.old) first.now second.now
-        out.old)
+    requires { (Listening c k (high_in rows.old) (low_in rows.old) caller.high.now caller.low.now out.old)
         × (Underway c) }
-    ensures { Hears
-        (heard c.doing.phase clock.0 room first.now second.now s.now) c k
-        masters.old marks.old points.now octets.old
-        (rows high.old harea.old) (rows low.old larea.old)
-        out.old result masters.new marks.new octets.new
-        (rows high.new harea.new) (rows low.new larea.new)
-        out.new }
+    ensures hears { Hears
+        (heard c.doing.phase clock.0 caller.entry.room caller.entry.high.now caller.entry.low.now s.now) c k
+        masters.old marks.old points.now octets.old (high_in rows.old) (low_in rows.old) out.old
+        (heard_by c k (Ok result)) masters.new marks.new octets.new (high_in rows.new) (low_in rows.new) out.new }
+    ensures same { SameRows rows.old rows.new }
 {
-    let doing = c.doing;
-    let phase = doing.phase;
-    let core;
-    match phase {
-        Phase::Idle => {
-            core = c;
-        }
+    let core = match c.doing.phase {
+        Phase::Idle => c,
         Phase::Awaited => {
-            let m = phases::awaited(clock, s, c, masters, marks, high, harea, low, larea, out);
+            let m = phases::awaited(clock, s, c, masters, marks, rows, out);
             return idle::moved(m, k);
         }
-        Phase::Sdn => {
-            return idle::moved(tokens::quiet(c), k);
-        }
-        Phase::Check => {
-            core = acts::with_doing(acts::resting(doing), c);
-        }
-        Phase::ToSelf => {
-            return idle::moved(tokens::quiet(c), k);
-        }
-    }
+        Phase::Sdn | Phase::ToSelf => return idle::moved(tokens::quiet(c), k),
+        Phase::Check => acts::with_doing(acts::resting(c.doing), c),
+    };
     idle::idle_read(
-        clock, room, first, second, s, core, k, masters, marks, points, octets, high, harea, low,
-        larea, out,
+        clock, caller, s, core, k, masters, marks, points, octets, rows, out,
     )
 }

@@ -5,7 +5,7 @@ use mathlib.Core.Path.{◌≡◌}
 use mathlib.Core.List.{List}
 use native.Mathlib.Omega.{arith}
 use lib.ListN.{length, drop, length-drop}
-use Rattle.frame.specs.declared.Answer.TheVariants.{Read}
+use Rattle.frame.specs.Reading.{Read}
 use Rattle.frame.specs.declared.Fields.{Fields}
 use Rattle.frame.specs.declared.Fields.TheVariants.{Frame}
 use Rattle.frame.specs.declared.Head.{Head}

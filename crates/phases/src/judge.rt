@@ -1,12 +1,14 @@
 // What a good frame is to the request whose reply is awaited: plausible, in vain, or a request or token. Assumes
 // nothing.
+#![tactic(auto, unfolding(choice::specs::Choice::pick, choice::specs::Choice::same, choice::specs::Choice::less, choice::specs::Choice::said, control::specs::Control::code_number, state::specs::Request::swapped, state::specs::Request::returned, state::specs::Request::answers_sda, state::specs::Request::answers_srd, state::specs::Request::answers, state::specs::Request::judged_by, state::specs::Request::judged))]
+
 ghost use Rattle.std.specs.Prelude.{◌≡◌};
-ghost use Rattle.choice.specs.Choice.{pick, same, less};
+ghost use Rattle.choice.specs.Choice.{pick, same};
 ghost use Rattle.state.specs.Request.{answers_sda, answers_srd, judged_by};
 ghost use Rattle.state.specs.Request.{swapped as request_swapped, returned as request_returned};
 ghost use Rattle.state.specs.Request.{answers as request_answers, judged as request_judged};
 
-use control::{Code, Control, Kind};
+use control::{Code, Control};
 use frame::{Address, Fields, Head};
 use request::Record;
 use state::Verdict;
@@ -15,40 +17,14 @@ use state::Verdict;
 fn swapped(r: Record, h: Head) -> bool
     ensures { result ≡ request_swapped r h }
 {
-    let to = h.to;
-    let from = h.from;
-    if frame::point_of(to) != r.from.0 {
-        return false;
-    }
-    if frame::point_of(from) != r.to.0 {
-        return false;
-    }
-    true
+    frame::point_of(h.to) == r.from.0 && frame::point_of(h.from) == r.to.0
 }
 
 // Whether a reply comes to TS from the request's destination, access points swapped.
 fn returned(ts: Address, r: Record, h: Head) -> bool
     ensures { result ≡ request_returned ts.0 r h }
 {
-    if h.destination.0 != ts.0 {
-        return false;
-    }
-    if h.source.0 != r.destination.0 {
-        return false;
-    }
-    swapped(r, h)
-}
-
-fn none(n: usize) -> bool
-    ensures { result ≡ same n 0 }
-{
-    if n == 0 { true } else { false }
-}
-
-fn some(n: usize) -> bool
-    ensures { result ≡ less 0 n }
-{
-    if 0 < n { true } else { false }
+    h.destination.0 == ts.0 && h.source.0 == r.destination.0 && swapped(r, h)
 }
 
 // Whether a code with n octets of data answers an SDA, and whether it answers an SRD.
@@ -56,15 +32,8 @@ fn answers_sda(k: Code, n: usize) -> bool
     ensures { result ≡ answers_sda k n }
 {
     match k {
-        Code::Ok => none(n),
-        Code::Ue => none(n),
-        Code::Rr => none(n),
-        Code::Rs => none(n),
-        Code::Dl => false,
-        Code::Nr => false,
-        Code::Dh => false,
-        Code::Rdl => false,
-        Code::Rdh => false,
+        Code::Ok | Code::Ue | Code::Rr | Code::Rs => n == 0,
+        Code::Dl | Code::Nr | Code::Dh | Code::Rdl | Code::Rdh => false,
     }
 }
 
@@ -73,14 +42,8 @@ fn answers_srd(k: Code, n: usize) -> bool
 {
     match k {
         Code::Ok => false,
-        Code::Ue => none(n),
-        Code::Rr => none(n),
-        Code::Rs => none(n),
-        Code::Dl => some(n),
-        Code::Nr => none(n),
-        Code::Dh => some(n),
-        Code::Rdl => some(n),
-        Code::Rdh => some(n),
+        Code::Ue | Code::Rr | Code::Rs | Code::Nr => n == 0,
+        Code::Dl | Code::Dh | Code::Rdl | Code::Rdh => 0 < n,
     }
 }
 
@@ -88,44 +51,33 @@ fn answers(service: u8, k: Code, n: usize) -> bool
     ensures { result ≡ request_answers service k n }
 {
     if service == request::SDA {
-        return answers_sda(k, n);
+        answers_sda(k, n)
+    } else {
+        answers_srd(k, n)
     }
-    answers_srd(k, n)
-}
-
-fn judge_reply(ts: Address, r: Record, h: Head, n: usize, kind: Kind, code: Code) -> Verdict
-    ensures { result ≡ judged_by ts.0 r h n (Control.Reply kind code) }
-{
-    if !returned(ts, r, h) {
-        return Verdict::Vain;
-    }
-    if !answers(r.service, code, n) {
-        return Verdict::Vain;
-    }
-    Verdict::Plausible(control::code_number(code))
 }
 
 fn judge_frame(ts: Address, r: Record, h: Head, n: usize) -> Verdict
     ensures { result ≡ judged_by ts.0 r h n h.control }
 {
-    let control = h.control;
-    match control {
-        Control::Request {
-            service: _,
-            fcb: _,
-            fcv: _,
-        } => Verdict::Foreign,
-        Control::Reply { kind, code } => judge_reply(ts, r, h, n, kind, code),
+    match h.control {
+        Control::Request { .. } => Verdict::Foreign,
+        Control::Reply { code, .. } if returned(ts, r, h) && answers(r.service, code, n) => {
+            Verdict::Plausible(control::code_number(code))
+        }
+        Control::Reply { .. } => Verdict::Vain,
     }
 }
 
+// A short acknowledgement is OK to an SDA, and NR to an SRD.
 fn judge_short(service: u8) -> Verdict
     ensures { result ≡ Verdict.Plausible (pick (same service 3) 0 9) }
 {
     if service == request::SDA {
-        return Verdict::Plausible(0);
+        Verdict::Plausible(control::code_number(Code::Ok))
+    } else {
+        Verdict::Plausible(control::code_number(Code::Nr))
     }
-    Verdict::Plausible(9)
 }
 
 // What a good frame with n octets of data is to a request of station TS.
@@ -133,10 +85,7 @@ pub fn judge(ts: Address, r: Record, f: Fields, n: usize) -> Verdict
     ensures { result ≡ request_judged ts.0 r f n }
 {
     match f {
-        Fields::Token {
-            destination: _,
-            source: _,
-        } => Verdict::Foreign,
+        Fields::Token { .. } => Verdict::Foreign,
         Fields::Short => judge_short(r.service),
         Fields::Frame(h) => judge_frame(ts, r, h, n),
     }

@@ -1,12 +1,14 @@
 // The station's refusals 20, 21, 22 and 29: what start refuses, and what every other call refuses in a state, in lent
 // rows and in buffers. Assumes nothing.
-#![tactic(auto)]
+#![tactic(auto, unfolding(choice::specs::Choice::pick, choice::specs::Choice::less, choice::specs::Choice::same, choice::specs::Choice::said, refusal::specs::Refusal::refused, refusal::specs::Refusal::number, state::specs::World::queue_of, state::specs::Refusals::unstartable, state::specs::Refusals::unlent, state::specs::Refusals::cramped, state::specs::Refusals::unstarted, state::specs::Refusals::misaddressed, state::specs::Refusals::overcounted, state::specs::Refusals::odd_in, state::specs::Refusals::lawless, state::specs::Refusals::sound_in, state::specs::Refusals::unlike_in, state::specs::Refusals::row_by, state::specs::Refusals::in_flight, state::specs::Refusals::unsound, state::specs::Refusals::refusal_in))]
 
 ghost use Rattle.std.specs.Prelude.{◌≡◌, ◌*◌, ◌<◌, length};
 ghost use Rattle.choice.specs.Choice.{same};
 ghost use Rattle.ring.specs.Ring.{next_of};
 ghost use Rattle.request.specs.Record.{SIZE};
-ghost use Rattle.state.specs.World.{Rows, queue_of};
+ghost use Rattle.refusal.specs.Refusal.{refused};
+ghost use Rattle.state.specs.World.{queue_of};
+ghost use Rattle.state.specs.Told.{high_in, low_in};
 ghost use Rattle.state.specs.Refusals.{Lawful, odd_in, unlike_in, in_flight, refusal_in};
 ghost use Rattle.state.specs.Refusals.{unstartable as refusals_unstartable, unlent as refusals_unlent};
 ghost use Rattle.state.specs.Refusals.{cramped as refusals_cramped, unstarted as refusals_unstarted};
@@ -15,75 +17,40 @@ ghost use Rattle.state.specs.Refusals.{lawless as refusals_lawless, unsound as r
 
 use frame::Address;
 use queue::Queue;
+use refusal::Refusal;
 use request::Record;
-use state::{Core, Kept, Phase, Priority, UPDATE};
+use state::{Core, Kept, Phase, Priority, Rows, UPDATE};
 use times::Settings;
 
 // Whether start refuses settings, TS or the set of masters.
 pub fn unstartable(s: Settings, ts: Address, masters: &[u8; 127]) -> bool
     ensures { result ≡ refusals_unstartable s ts.0 masters.now }
 {
-    if times::unruly(s) {
-        return true;
-    }
-    if 126 < ts.0 {
-        return true;
-    }
-    if ring::member(masters, ts) {
-        return false;
-    }
-    true
+    times::unruly(s) || 126 < ts.0 || !ring::member(masters, ts)
 }
 
 fn unstarted(c: Core, masters: &[u8; 127], started: &[u8; 127]) -> bool
     ensures { result ≡ refusals_unstarted c masters.now started.now }
 {
-    let settings = c.settings;
-    let ts = c.ts;
-    if unstartable(settings, ts, masters) {
-        return true;
-    }
-    if ring::member(started, ts) {
-        return false;
-    }
-    true
+    unstartable(c.settings, c.ts, masters) || !ring::member(started, c.ts)
 }
 
 fn misaddressed(ps: u8, stranger: u8, source: u8) -> bool
     ensures { result ≡ refusals_misaddressed ps stranger source }
 {
-    if 126 < ps {
-        return true;
-    }
-    if state::NOBODY < stranger {
-        return true;
-    }
-    if state::NOBODY < source {
-        return true;
-    }
-    false
+    126 < ps || state::NOBODY < stranger || state::NOBODY < source
 }
 
 fn overcounted(high: Queue, low: Queue, reply: u16) -> bool
     ensures { result ≡ refusals_overcounted high low reply }
 {
-    if queue::overfull(high) {
-        return true;
-    }
-    if queue::overfull(low) {
-        return true;
-    }
-    if 255 < reply {
-        return true;
-    }
-    false
+    queue::overfull(high) || queue::overfull(low) || 255 < reply
 }
 
 fn waits(p: Priority, c: Core) -> bool
     ensures { result ≡ same (queue_of p c).unconfirmed 0 }
 {
-    let q = acts::queue_of(p, c);
-    if q.unconfirmed == 0 { true } else { false }
+    acts::queue_of(p, c).unconfirmed == 0
 }
 
 // Whether the token goes to this station itself.
@@ -91,22 +58,16 @@ fn alone(c: Core, masters: &[u8; 127]) -> bool
     requires { c.ts.0 < 127 }
     ensures { result ≡ same (next_of masters.now c.ts.0) c.ts.0 }
 {
-    let ts = c.ts;
-    let ns = ring::next(masters, ts);
-    if ns.0 == ts.0 { true } else { false }
+    ring::next(masters, c.ts).0 == c.ts.0
 }
 
 fn odd(c: Core, masters: &[u8; 127]) -> bool
     requires { c.ts.0 < 127 }
     ensures { result ≡ odd_in c.doing.phase c masters.now }
 {
-    let doing = c.doing;
-    let served = doing.served;
-    let phase = doing.phase;
-    match phase {
+    match c.doing.phase {
         Phase::Idle => false,
-        Phase::Awaited => waits(served, c),
-        Phase::Sdn => waits(served, c),
+        Phase::Awaited | Phase::Sdn => waits(c.doing.served, c),
         Phase::Check => alone(c, masters),
         Phase::ToSelf => !alone(c, masters),
     }
@@ -116,21 +77,10 @@ fn odd(c: Core, masters: &[u8; 127]) -> bool
 pub fn lawless(c: Core, masters: &[u8; 127], started: &[u8; 127], k: Kept) -> bool
     ensures { result ≡ refusals_lawless c masters.now started.now k }
 {
-    let ps = c.ps;
-    let stranger = c.stranger;
-    let source = k.source;
-    let high = c.high;
-    let low = c.low;
-    if unstarted(c, masters, started) {
-        return true;
-    }
-    if misaddressed(ps.0, stranger.0, source.0) {
-        return true;
-    }
-    if overcounted(high, low, k.length) {
-        return true;
-    }
-    odd(c, masters)
+    unstarted(c, masters, started)
+        || misaddressed(c.ps.0, c.stranger.0, k.source.0)
+        || overcounted(c.high, c.low, k.length)
+        || odd(c, masters)
 }
 
 // Whether a lent row and data area are not the queue's: refusal 21.
@@ -144,78 +94,44 @@ pub fn unlent(q: Queue, row: &[u8], area: &[u8]) -> bool
 pub fn cramped(out: usize, high: usize, low: usize) -> bool
     ensures { result ≡ refusals_cramped out high low }
 {
-    if out < 255 {
-        return true;
-    }
-    if UPDATE < high {
-        return true;
-    }
-    if UPDATE < low {
-        return true;
-    }
-    false
+    out < 255 || UPDATE < high || UPDATE < low
 }
 
 fn unlike(phase: Phase, service: u8) -> bool
     ensures { result ≡ unlike_in phase service }
 {
     match phase {
-        Phase::Idle => false,
-        Phase::Awaited => sdn(service),
-        Phase::Sdn => !sdn(service),
-        Phase::Check => false,
-        Phase::ToSelf => false,
+        Phase::Awaited => service == request::SDN,
+        Phase::Sdn => service != request::SDN,
+        Phase::Idle | Phase::Check | Phase::ToSelf => false,
     }
 }
 
-fn sdn(service: u8) -> bool
-    ensures { result ≡ same service 4 }
-{
-    if service == request::SDN { true } else { false }
-}
-
 // The record being sent, or the one that would be.
-pub fn in_flight(c: Core, high: &[u8], low: &[u8]) -> Record
+pub fn in_flight(c: Core, rows: &Rows) -> Record
     requires { (Lawful c)
-        × ((length high.now ≡ SIZE * c.high.places) × (length low.now ≡ SIZE * c.low.places)) }
-    ensures { result ≡ in_flight c high.now low.now }
+        × ((length rows.now.high.now ≡ SIZE * c.high.places) × (length rows.now.low.now ≡ SIZE * c.low.places)) }
+    ensures { result ≡ in_flight c rows.now.high.now rows.now.low.now }
 {
-    let doing = c.doing;
-    let served = doing.served;
-    let q = acts::queue_of(served, c);
-    let place = queue::current(q);
-    match served {
-        Priority::High => rows::at(high, place),
-        Priority::Low => rows::at(low, place),
+    match c.doing.served {
+        Priority::High => rows::at(rows.high, queue::current(c.high)),
+        Priority::Low => rows::at(rows.low, queue::current(c.low)),
     }
 }
 
 // Whether an unconfirmed record is one that submit would refuse, or the record being sent is not the phase's: refusal
 // 29, by the records.
-fn unsound(c: Core, high: &[u8], low: &[u8]) -> bool
+fn unsound(c: Core, rows: &Rows) -> bool
     requires { (Lawful c)
-        × ((length high.now ≡ SIZE * c.high.places) × (length low.now ≡ SIZE * c.low.places)) }
-    ensures { result ≡ refusals_unsound c high.now low.now }
+        × ((length rows.now.high.now ≡ SIZE * c.high.places) × (length rows.now.low.now ≡ SIZE * c.low.places)) }
+    ensures { result ≡ refusals_unsound c rows.now.high.now rows.now.low.now }
 {
-    let ts = c.ts;
-    let first = c.high;
-    let second = c.low;
-    let doing = c.doing;
-    let phase = doing.phase;
-    let r = in_flight(c, high, low);
-    if unlike(phase, r.service) {
-        return true;
-    }
-    if !rows::sound(ts, first, high) {
-        return true;
-    }
-    if !rows::sound(ts, second, low) {
-        return true;
-    }
-    false
+    !rows::sound(c.ts, c.high, rows.high)
+        || !rows::sound(c.ts, c.low, rows.low)
+        || unlike(c.doing.phase, in_flight(c, rows).service)
 }
 
-// The refusal of frame, sent and slot, with an output and two updates of those lengths, or 0.
+// The refusal of frame, sent and slot, with an output and two updates of those lengths.
 pub fn refusal(
     out: usize,
     first: usize,
@@ -224,32 +140,19 @@ pub fn refusal(
     masters: &[u8; 127],
     started: &[u8; 127],
     k: Kept,
-    high: &[u8],
-    harea: &[u8],
-    low: &[u8],
-    larea: &[u8],
-) -> u8
-    ensures { result
-        ≡ refusal_in out first second c masters.now started.now k
-        (record { row = high.now; area = harea.now })
-        (record { row = low.now; area = larea.now }) }
+    rows: &Rows,
+) -> Result<(), Refusal>
+    ensures { refused result
+        ≡ refusal_in out first second c masters.now started.now k (high_in rows.now) (low_in rows.now) }
 {
-    let upper = c.high;
-    let lower = c.low;
-    if unlent(upper, high, harea) {
-        return 21;
-    }
-    if unlent(lower, low, larea) {
-        return 21;
+    if unlent(c.high, rows.high, rows.high_area) || unlent(c.low, rows.low, rows.low_area) {
+        return Err(Refusal::Row);
     }
     if cramped(out, first, second) {
-        return 22;
+        return Err(Refusal::Room);
     }
-    if lawless(c, masters, started, k) {
-        return 29;
+    if lawless(c, masters, started, k) || unsound(c, rows) {
+        return Err(Refusal::State);
     }
-    if unsound(c, high, low) {
-        return 29;
-    }
-    0
+    Ok(())
 }

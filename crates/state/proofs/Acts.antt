@@ -11,7 +11,7 @@ use Rattle.ring.specs.Ring.{member}
 use Rattle.request.specs.declared.Record.{Record}
 use Rattle.request.specs.Record.{NA, DS, named}
 use Rattle.queue.specs.declared.Queue.{Queue}
-use Rattle.queue.specs.declared.Taken.{Taken}
+use Rattle.queue.specs.Queue.{Taken}
 use Rattle.queue.specs.Queue.{AREA, current, freed}
 use Rattle.queue.proofs.Laws.{Accepted}
 use Rattle.rows.specs.Rows.{Left, left, at, confirm, submitted}

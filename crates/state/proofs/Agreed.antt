@@ -15,8 +15,8 @@ use Rattle.control.specs.declared.Service.TheVariants.{SdaLow, SdnLow, SdaHigh, 
 use Rattle.control.specs.declared.Control.TheVariants.{Request}
 use Rattle.control.specs.Control.{control_of, counted}
 use Rattle.control.proofs.Octet.{control-again}
-use Rattle.frame.specs.declared.Access.{Access}
-use Rattle.frame.specs.declared.Access.TheVariants.{None, At}
+use Rattle.std.specs.Prelude.{Option, None, Some}
+use Rattle.frame.specs.declared.Point.{Point}
 use Rattle.frame.specs.declared.Head.{Head}
 use Rattle.frame.specs.declared.Fields.TheVariants.{Frame}
 use Rattle.frame.specs.Format.{announce, addressed, unit, body, sd1, sd2, framed, octets}
@@ -102,10 +102,10 @@ pub agree-like : (l : List ℕ) (m m' : ℕ → Mark) → ((a : ℕ) → m a ≡
 agree-like l m m' h z = record { long = z.long; each = λ a i. z.each a i ∙ h a }
 
 -- ---- the octets of a request
-announced : (n : ℕ) (a : Access) → n ≤ 127 → addressed n a % 128 ≡ n
+announced : (n : ℕ) (a : Option Point) → n ≤ 127 → addressed n a % 128 ≡ n
 unfolding addressed announce
 announced n None h = omega arith
-announced n (At p) h = omega arith
+announced n (Some p) h = omega arith
 
 sd1-field : (a b c : ℕ) (u : List ℕ) → (field (sd1 (a ∷ (b ∷ (c ∷ u)))) 0 ≡ a) × (field (sd1 (a ∷ (b ∷ (c ∷ u)))) 2 ≡ c)
 unfolding field sd1 pick same

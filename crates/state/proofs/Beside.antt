@@ -7,9 +7,9 @@ use mathlib.Core.Path.{◌≡◌, refl}
 use Rattle.choice.specs.Choice.{pick, same}
 use Rattle.choice.proofs.Rules.{by-pick}
 use Rattle.request.specs.declared.Record.{Record}
-use Rattle.queue.specs.declared.Taken.{Taken}
-use Rattle.queue.specs.declared.Collected.{Collected}
-use Rattle.queue.specs.declared.Collected.TheVariants.{Refused, Handed}
+use Rattle.queue.specs.Queue.{Taken}
+use Rattle.queue.specs.Queue.{Collected}
+use Rattle.queue.specs.Queue.{Refused, Handed}
 use Rattle.rows.specs.Rows.{Left}
 use Rattle.state.specs.declared.Priority.{Priority}
 use Rattle.state.specs.declared.Priority.TheVariants.{High, Low}

@@ -9,7 +9,7 @@ use Rattle.choice.proofs.Rules.{true_same, true-less, false-less}
 use Rattle.frame.specs.declared.Address.{Address}
 use Rattle.frame.specs.declared.Part.{Part}
 use Rattle.frame.specs.declared.Fields.TheVariants.{Token}
-use Rattle.frame.specs.declared.Answer.TheVariants.{Read}
+use Rattle.frame.specs.Reading.{Read}
 use Rattle.frame.specs.Reading.{read}
 use Rattle.state.specs.declared.Phase.{Phase}
 use Rattle.state.specs.declared.Phase.TheVariants.{Idle, Awaited, Sdn, Check, ToSelf}

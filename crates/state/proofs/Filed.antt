@@ -10,7 +10,7 @@ use Rattle.choice.specs.Choice.{pick, less, same}
 use Rattle.request.specs.declared.Record.{Record}
 use Rattle.request.specs.Record.{SIZE, DS, NA, OK, named}
 use Rattle.queue.specs.declared.Queue.{Queue}
-use Rattle.queue.specs.declared.Taken.{Taken}
+use Rattle.queue.specs.Queue.{Taken}
 use Rattle.queue.specs.Queue.{AREA, Ruled, place, current, closed, grown, confirmed, freed, take, refuse}
 use Rattle.queue.proofs.Laws.{ruled-confirmed, ruled-freed, place-below, place-apart, place-grown, place-confirmed}
 use Rattle.queue.proofs.Laws.{place-freed}

@@ -18,7 +18,7 @@ use Rattle.frame.specs.declared.Head.{Head}
 use Rattle.frame.specs.declared.Part.{Part}
 use Rattle.frame.specs.declared.Fields.{Fields}
 use Rattle.frame.specs.declared.Fields.TheVariants.{Token, Short, Frame}
-use Rattle.frame.specs.declared.Answer.TheVariants.{Read}
+use Rattle.frame.specs.Reading.{Read}
 use Rattle.frame.specs.Format.{unit, body, closing, sd1, sd2, framed, octets, unwritable, unwritable_token}
 use Rattle.frame.specs.Reading.{read, shown}
 use Rattle.frame.proofs.Lengths.{length-extension, length-unit}

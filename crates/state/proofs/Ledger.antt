@@ -14,8 +14,8 @@ use Rattle.request.specs.declared.Record.{Record}
 use Rattle.request.specs.Record.{unfit, limited}
 use Rattle.request.proofs.Laws.{fit-short}
 use Rattle.queue.specs.declared.Queue.{Queue}
-use Rattle.queue.specs.declared.Collected.{Collected}
-use Rattle.queue.specs.declared.Collected.TheVariants.{Refused as Uncollected, Handed}
+use Rattle.queue.specs.Queue.{Collected}
+use Rattle.queue.specs.Queue.{Refused as Uncollected, Handed}
 use Rattle.queue.specs.Queue as Q
 use Rattle.queue.specs.Queue.{AREA, Ruled, place, current, grown, freed, take}
 use Rattle.queue.proofs.Laws.{Accepted, place-apart, place-grown, place-confirmed, place-freed}

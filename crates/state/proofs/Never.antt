@@ -12,9 +12,9 @@ use Rattle.times.specs.declared.Settings.{Settings}
 use Rattle.request.specs.declared.Record.{Record}
 use Rattle.request.specs.Record.{unfit, named}
 use Rattle.queue.specs.declared.Queue.{Queue}
-use Rattle.queue.specs.declared.Taken.{Taken}
-use Rattle.queue.specs.declared.Collected.{Collected}
-use Rattle.queue.specs.declared.Collected.TheVariants.{Refused as Uncollected, Handed}
+use Rattle.queue.specs.Queue.{Taken}
+use Rattle.queue.specs.Queue.{Collected}
+use Rattle.queue.specs.Queue.{Refused as Uncollected, Handed}
 use Rattle.queue.specs.Queue as Q
 use Rattle.queue.specs.Queue.{taken, take}
 use Rattle.rows.specs.Rows.{Left, at, stored, submitted, handed}

@@ -5,9 +5,9 @@ use mathlib.Core.Path.{◌≡◌, refl, sym, ◌∙◌}
 use mathlib.Core.List.{List, [], ◌∷◌}
 use Rattle.laid.specs.Laid.{laid}
 use Rattle.laid.proofs.Laws.{laid_nil}
-use Rattle.frame.specs.declared.Answer.{Answer as Reading}
+use Rattle.frame.specs.Reading.{Answer as Reading}
 use Rattle.state.specs.declared.Phase.{Phase}
-use Rattle.state.specs.declared.Indication.TheVariants.{None}
+use Rattle.std.specs.Prelude.{None}
 use Rattle.state.specs.World.{Site, World, Event, Done, Called, accepted, begins, ends, sends, confirmed}
 use Rattle.state.specs.World.{collected, indicated, resets, refused}
 use Rattle.state.specs.Hold.{token}

@@ -9,7 +9,7 @@ use lib.ListN.{length}
 use Rattle.choice.proofs.Rules.{same_true, true_same, is_said}
 use Rattle.request.specs.declared.Record.{Record}
 use Rattle.request.specs.Record.{limited}
-use Rattle.queue.specs.declared.Taken.{Taken}
+use Rattle.queue.specs.Queue.{Taken}
 use Rattle.queue.specs.Queue as Q
 use Rattle.queue.specs.Queue.{take}
 use Rattle.queue.proofs.Laws.{Accepted}

@@ -11,14 +11,14 @@ use Rattle.choice.proofs.Rules.{is_said}
 use Rattle.frame.specs.declared.Part.{Part}
 use Rattle.frame.specs.declared.Fields.{Fields}
 use Rattle.frame.specs.declared.Fields.TheVariants.{Token, Short, Frame}
-use Rattle.frame.specs.declared.Answer.{Answer as Reading}
-use Rattle.frame.specs.declared.Answer.TheVariants.{Refused as Unread, Read}
+use Rattle.frame.specs.Reading.{Answer as Reading}
+use Rattle.frame.specs.Reading.{Refused as Unread, Read}
 use Rattle.frame.specs.Reading.{read}
 use Rattle.ring.specs.Ring.{member}
 use Rattle.request.specs.declared.Record.{Record}
 use Rattle.queue.specs.declared.Queue.{Queue}
-use Rattle.queue.specs.declared.Collected.{Collected}
-use Rattle.queue.specs.declared.Collected.TheVariants.{Refused as Uncollected, Handed}
+use Rattle.queue.specs.Queue.{Collected}
+use Rattle.queue.specs.Queue.{Refused as Uncollected, Handed}
 use Rattle.queue.specs.Queue as Q
 use Rattle.queue.specs.Queue.{freed}
 use Rattle.rows.specs.Rows.{Left, left, at, confirm, drain, handed}

@@ -14,7 +14,7 @@ use Rattle.control.specs.Control.{counted, fc, bit, lawful, sdn}
 use Rattle.control.proofs.Octet.{listed-fc}
 use Rattle.frame.specs.declared.Address.{Address}
 use Rattle.frame.specs.declared.Head.{Head}
-use Rattle.frame.specs.declared.Access.TheVariants.{None, At}
+use Rattle.std.specs.Prelude.{None, Some}
 use Rattle.frame.specs.declared.Fields.TheVariants.{Frame}
 use Rattle.frame.specs.Format.{extension, unit, outside, misdirected, unwritable_frame, unwritable}
 use Rattle.frame.proofs.Lengths.{length-unit}
@@ -31,7 +31,7 @@ use Rattle.state.proofs.Agreed.{near, counted-service}
 
 -- ---- the access point of a record's octet: outside as the octet is beyond, and as long
 outside-pick : (b : Bool) (n most : ℕ)
-    → outside (pick b None (At (record { 0 = n }))) most ≡ pick b false (pick (less most n) true false)
+    → outside (pick b None (Some (record { 0 = n }))) most ≡ pick b false (pick (less most n) true false)
 unfolding pick outside
 outside-pick true n most = refl
 outside-pick false n most = refl
@@ -40,7 +40,7 @@ outside-access : (n most : ℕ) → outside (access_of n) most ≡ beyond n most
 unfolding access_of beyond
 outside-access n most = outside-pick (same n NONE) n most
 
-length-pick : (b : Bool) (n : ℕ) → length (extension (pick b None (At (record { 0 = n })))) ≡ pick b 0 1
+length-pick : (b : Bool) (n : ℕ) → length (extension (pick b None (Some (record { 0 = n })))) ≡ pick b 0 1
 unfolding pick extension
 length-pick true n = refl
 length-pick false n = refl
@@ -105,7 +105,7 @@ module _ (ts : Address) (p : Priority) (r : Record) (m : ℕ) (x : List ℕ) (e 
       ∙ pick-false _ _ (less-false units)
 
 -- ---- a reader's head
-point-again : (b : Bool) (n : ℕ) → same n NONE ≡ b → point_of (pick b None (At (record { 0 = n }))) ≡ n
+point-again : (b : Bool) (n : ℕ) → same n NONE ≡ b → point_of (pick b None (Some (record { 0 = n }))) ≡ n
 unfolding pick point_of
 point-again true n e = sym (true_same _ _ e)
 point-again false n e = refl

@@ -10,8 +10,8 @@ use Rattle.control.specs.declared.Code.TheVariants.{Ok, Rr, Rs, Dl, Dh, Rdl, Rdh
 use Rattle.control.specs.declared.Control.{Control}
 use Rattle.control.specs.declared.Control.TheVariants.{Request, Reply}
 use Rattle.frame.specs.declared.Address.{Address}
-use Rattle.frame.specs.declared.Access.{Access}
-use Rattle.frame.specs.declared.Access.TheVariants.{None, At}
+use Rattle.std.specs.Prelude.{Option, None, Some}
+use Rattle.frame.specs.declared.Point.{Point}
 use Rattle.frame.specs.declared.Head.{Head}
 use Rattle.frame.specs.declared.Part.{Part}
 use Rattle.frame.specs.declared.Fields.TheVariants.{Short, Frame}
@@ -28,14 +28,14 @@ use Rattle.state.specs.declared.Responder.{Responder}
 use Rattle.state.specs.World.{Event, a_reply, sends, indicated}
 
 -- "the active access points (0..62 and "none")": 63 is never one
-unfoldable pub active : List ℕ → Access → Bool
+unfoldable pub active : List ℕ → Option Point → Bool
 active l None = same (get_or l 63 0) 1
-active l (At p) = pick (less p.0 63) (same (get_or l p.0 0) 1) false
+active l (Some p) = pick (less p.0 63) (same (get_or l p.0 0) 1) false
 
 -- "SDA, SRD or FDL status to access point 63"
-unfoldable pub reserved : Access → Bool
+unfoldable pub reserved : Option Point → Bool
 reserved None = false
-reserved (At p) = same p.0 63
+reserved (Some p) = same p.0 63
 
 -- "an update over 244" is refused
 abbrev pub UPDATE : ℕ

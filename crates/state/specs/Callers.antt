@@ -10,10 +10,10 @@ use Rattle.times.specs.declared.Settings.{Settings}
 use Rattle.state.specs.declared.Priority.{Priority}
 use Rattle.state.specs.declared.Priority.TheVariants.{High, Low}
 use Rattle.state.specs.declared.State.{State}
-use Rattle.state.specs.declared.Accepted.{Accepted}
-use Rattle.state.specs.declared.Answer.{Answer}
-use Rattle.state.specs.declared.Renewed.{Renewed}
-use Rattle.state.specs.declared.HandedBack.{HandedBack}
+use Rattle.state.specs.Told.{Accepted}
+use Rattle.state.specs.Told.{Answer}
+use Rattle.state.specs.Told.{Renewed}
+use Rattle.state.specs.Told.{HandedBack}
 use Rattle.state.specs.World.{Rows, World, Called, rows, world_of, state_of}
 use Rattle.state.specs.Told.{leaves, told, reset_of, started_of, lent, accepted_of, answer_of, handed_back_of}
 use Rattle.state.specs.Told.{submitted_of, telling}

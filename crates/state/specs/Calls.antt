@@ -6,8 +6,8 @@ use Rattle.control.specs.declared.Kind.TheVariants.{InRing}
 use Rattle.frame.specs.declared.Fields.{Fields}
 use Rattle.frame.specs.declared.Fields.TheVariants.{Token, Short, Frame}
 use Rattle.frame.specs.declared.Part.{Part}
-use Rattle.frame.specs.declared.Answer.{Answer as Reading}
-use Rattle.frame.specs.declared.Answer.TheVariants.{Refused as Unread, Read}
+use Rattle.frame.specs.Reading.{Answer as Reading}
+use Rattle.frame.specs.Reading.{Refused as Unread, Read}
 use Rattle.frame.specs.Reading.{read, shown}
 use Rattle.ring.specs.Ring.{previous_of}
 use Rattle.times.specs.declared.Settings.{Settings}
@@ -15,9 +15,9 @@ use Rattle.times.specs.declared.Sending.TheVariants.{Reply as ReplySending}
 use Rattle.request.specs.declared.Record.{Record}
 use Rattle.request.specs.Record.{DS, limited}
 use Rattle.queue.specs.declared.Queue.{Queue}
-use Rattle.queue.specs.declared.Taken.{Taken}
-use Rattle.queue.specs.declared.Collected.{Collected}
-use Rattle.queue.specs.declared.Collected.TheVariants.{Refused as Uncollected, Handed}
+use Rattle.queue.specs.Queue.{Taken}
+use Rattle.queue.specs.Queue.{Collected}
+use Rattle.queue.specs.Queue.{Refused as Uncollected, Handed}
 use Rattle.queue.specs.Queue.{PLACES, current}
 use Rattle.rows.specs.Rows.{Left, left, submitted, handed, drain}
 use Rattle.state.specs.declared.Phase.{Phase}

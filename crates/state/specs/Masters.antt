@@ -3,7 +3,7 @@ use Rattle.std.specs.Prelude.{ℕ, ◌≤◌, Bool, ◌≡◌, List}
 use Rattle.frame.specs.declared.Address.{Address}
 use Rattle.frame.specs.declared.Part.{Part}
 use Rattle.frame.specs.declared.Fields.TheVariants.{Token}
-use Rattle.frame.specs.declared.Answer.TheVariants.{Read}
+use Rattle.frame.specs.Reading.{Read}
 use Rattle.frame.specs.Reading.{read}
 use Rattle.ring.specs.Ring.{next_of, enter, remove}
 use Rattle.state.specs.declared.Phase.TheVariants.{Check}

@@ -7,7 +7,7 @@ use Rattle.control.specs.declared.Control.TheVariants.{Request}
 use Rattle.frame.specs.declared.Head.{Head}
 use Rattle.frame.specs.declared.Part.{Part}
 use Rattle.frame.specs.declared.Fields.TheVariants.{Frame}
-use Rattle.frame.specs.declared.Answer.TheVariants.{Read}
+use Rattle.frame.specs.Reading.{Read}
 use Rattle.frame.specs.Access.{point_of}
 use Rattle.frame.specs.Format.{octets}
 use Rattle.frame.specs.Reading.{read, shown}

@@ -6,9 +6,13 @@ use Rattle.request.specs.declared.Record.{Record}
 use Rattle.request.specs.Record.{WAITING}
 use Rattle.frame.specs.Access.{NONE}
 use Rattle.state.specs.declared.Indication.{Indication}
-use Rattle.state.specs.declared.Indication.TheVariants.{None, Shown}
-use Rattle.queue.specs.declared.Collected.{Collected}
-use Rattle.queue.specs.declared.Collected.TheVariants.{Refused, Handed}
+use Rattle.state.specs.declared.Rows.{Rows as LentRows}
+use Rattle.std.specs.Prelude.{Option, None, Some, Result, Ok, Err}
+use Rattle.clock.specs.declared.BitTime.{BitTime}
+use Rattle.refusal.specs.declared.Refusal.{Refusal}
+use Rattle.refusal.specs.Refusal.{number}
+use Rattle.queue.specs.Queue.{Collected}
+use Rattle.queue.specs.Queue.{Refused, Handed}
 use Rattle.rows.specs.Rows.{Left, left}
 use Rattle.state.specs.declared.Priority.{Priority}
 use Rattle.state.specs.declared.Priority.TheVariants.{High, Low}
@@ -18,16 +22,16 @@ use Rattle.state.specs.declared.Kept.{Kept}
 use Rattle.state.specs.declared.Outcome.{Outcome}
 use Rattle.state.specs.declared.Moved.{Moved}
 use Rattle.state.specs.declared.Spoken.{Spoken}
-use Rattle.state.specs.declared.Heard.{Heard}
-use Rattle.state.specs.declared.Accepted.{Accepted}
-use Rattle.state.specs.declared.Renewed.{Renewed}
-use Rattle.state.specs.declared.HandedBack.{HandedBack}
-use Rattle.state.specs.declared.Answer.{Answer}
+use Rattle.state.specs.declared.Heard.{Heard as GivenHeard}
+use Rattle.state.specs.declared.Accepted.{Accepted as GivenAccepted}
+use Rattle.state.specs.declared.HandedBack.{HandedBack as GivenHandedBack}
+use Rattle.state.specs.declared.Answer.{Answer as GivenAnswer}
 use Rattle.state.specs.Request.{close}
 use Rattle.state.specs.Pass.{recheck}
 use Rattle.times.specs.declared.Settings.{Settings}
 use Rattle.state.specs.Calls.{Started, Unstarted, Station, no_rows, empty_queue, fresh_core, fresh_world}
-use Rattle.state.specs.World.{Rows, World, Event, Done, Called, site_of, rows_of, world_of, state_of, state_with}
+use Rattle.state.specs.World.{Rows, Site, World, Event, Done, Called, rows, site_of, rows_of, world_of, state_of}
+use Rattle.state.specs.World.{state_with}
 use Rattle.state.specs.World.{with_queue, accepted, begins, ends, sends, confirmed, collected, indicated, resets}
 use Rattle.state.specs.World.{refused}
 
@@ -35,7 +39,7 @@ pub record Telling : Type 0 where
   pub refused : ℕ
   pub octets : List ℕ
   pub wait : ℕ
-  pub indication : Indication
+  pub indication : Option Indication
   pub place : ℕ
   pub entry : Record
 
@@ -88,7 +92,7 @@ adds (indicated h p) t =
       refused = t.refused;
       octets = t.octets;
       wait = t.wait;
-      indication = Shown h p;
+      indication = Some (record { head = h; part = p });
       place = t.place;
       entry = t.entry;
     }
@@ -106,6 +110,23 @@ adds (refused n) t =
 unfoldable pub telling : List Event → Telling
 telling [] = untold
 telling (e ∷ l) = adds e (telling l)
+
+-- ---- what a call is lent: a queue's row and data area, and the site that they make with the rest of it
+abbrev pub high_in : LentRows → Rows
+high_in l = rows l.high.now l.high_area.now
+
+abbrev pub low_in : LentRows → Rows
+low_in l = rows l.low.now l.low_area.now
+
+abbrev pub site_in : Core → List ℕ → List ℕ → LentRows → Site
+site_in c masters marks l = site_of c masters marks (high_in l) (low_in l)
+
+-- the same memory is lent after a call as before it
+abbrev pub SameRows : LentRows → LentRows → Type 0
+SameRows a b =
+    (b.high.ghost_name ≡ a.high.ghost_name)
+    × ((b.high_area.ghost_name ≡ a.high_area.ghost_name)
+    × ((b.low.ghost_name ≡ a.low.ghost_name) × (b.low_area.ghost_name ≡ a.low_area.ghost_name)))
 
 -- ---- how an inner function keeps to a definition: it lays the octets that the events tell at the start of the output,
 -- and answers the rest of what they tell
@@ -137,6 +158,69 @@ pub record Says (k : Kept) (e : List Event) (out : List ℕ) (r : Spoken) (out' 
   pub wait : r.wait.0 ≡ (telling e).wait
   pub indication : r.indication ≡ (telling e).indication
   pub laid : Lays out 0 (telling e).octets 255 r.length out'
+
+-- ---- what a call answers: the number of its refusal or 0, and what it leaves and tells
+-- frame, sent and slot, where the arrays of the state are lent
+pub record Heard : Type 0 where
+  pub refused : ℕ
+  pub core : Core
+  pub kept : Kept
+  pub length : ℕ
+  pub wait : BitTime
+  pub indication : Option Indication
+
+-- frame, sent and slot
+pub record Answer : Type 0 where
+  pub refused : ℕ
+  pub state : State
+  pub length : ℕ
+  pub wait : BitTime
+  pub indication : Option Indication
+
+-- submit
+pub record Accepted : Type 0 where
+  pub refused : ℕ
+  pub state : State
+  pub place : ℕ
+
+-- start and reset
+pub record Renewed : Type 0 where
+  pub refused : ℕ
+  pub state : State
+
+-- collect
+pub record HandedBack : Type 0 where
+  pub refused : ℕ
+  pub state : State
+  pub place : ℕ
+  pub entry : Record
+
+-- the same as each call gives it to its caller, who keeps the core or the state that he gave where the call is refused
+unfoldable pub heard_by : Core → Kept → Result GivenHeard Refusal → Heard
+heard_by c k (Ok a) =
+    record
+    { refused = 0; core = a.core; kept = a.kept; length = a.length; wait = a.wait; indication = a.indication }
+heard_by c k (Err r) =
+    record
+    { refused = number r; core = c; kept = k; length = 0; wait = record { 0 = 0 }; indication = None }
+
+unfoldable pub answered_by : State → Result GivenAnswer Refusal → Answer
+answered_by s (Ok a) =
+    record { refused = 0; state = a.state; length = a.length; wait = a.wait; indication = a.indication }
+answered_by s (Err r) =
+    record { refused = number r; state = s; length = 0; wait = record { 0 = 0 }; indication = None }
+
+unfoldable pub accepted_by : State → Result GivenAccepted Refusal → Accepted
+accepted_by s (Ok a) = record { refused = 0; state = a.state; place = a.place }
+accepted_by s (Err r) = record { refused = number r; state = s; place = 0 }
+
+unfoldable pub renewed_by : State → Result State Refusal → Renewed
+renewed_by s (Ok a) = record { refused = 0; state = a }
+renewed_by s (Err r) = record { refused = number r; state = s }
+
+unfoldable pub handed_back_by : State → Result GivenHandedBack Refusal → HandedBack
+handed_back_by s (Ok a) = record { refused = 0; state = a.state; place = a.place; entry = a.entry }
+handed_back_by s (Err r) = record { refused = number r; state = s; place = 0; entry = untold.entry }
 
 -- ---- what a call answers, and all that it leaves in what was lent: the rows with their data, and the output
 pub record Leaves (A : Type 0) : Type 0 where

@@ -7,20 +7,18 @@ use Rattle.control.specs.declared.Kind.TheVariants.{InRing}
 use Rattle.control.specs.declared.Control.{Control}
 use Rattle.control.specs.declared.Control.TheVariants.{Request, Reply}
 use Rattle.control.specs.Control.{code_number}
-use Rattle.frame.specs.declared.Access.{Access}
-use Rattle.frame.specs.declared.Access.TheVariants.{None, At}
+use Rattle.std.specs.Prelude.{Option, None, Some}
+use Rattle.frame.specs.declared.Point.{Point}
 use Rattle.frame.specs.declared.Head.{Head}
 use Rattle.frame.specs.declared.Fields.{Fields}
 use Rattle.frame.specs.declared.Fields.TheVariants.{Token, Frame}
-use Rattle.frame.specs.declared.Answer.{Answer}
-use Rattle.frame.specs.declared.Answer.TheVariants.{Refused as Unread, Read}
+use Rattle.frame.specs.Reading.{Answer}
+use Rattle.frame.specs.Reading.{Refused as Unread, Read}
 use Rattle.frame.specs.Format.{octets, unit, unwritable}
 use Rattle.frame.specs.Reading.{octet, read, shown}
 use Rattle.clock.specs.Clock.{time_left}
 use Rattle.times.specs.declared.Settings.{Settings}
-use Rattle.times.specs.declared.Reckoned.{Reckoned}
-use Rattle.times.specs.declared.Reckoned.TheVariants.{Reckon}
-use Rattle.times.specs.Times.{reckoned, standard}
+use Rattle.times.specs.Times.{Reckoned, Reckon, reckoned, standard}
 use Rattle.ring.specs.Ring.{enter}
 use Rattle.request.specs.declared.Record.{Record}
 use Rattle.request.specs.Record.{SRD, NA, SIZE}
@@ -55,12 +53,12 @@ pub record BothWays (s : List ℕ) (f : Fields) (x : List ℕ) : Type 0 where
 abbrev pub token : ℕ → ℕ → Fields
 token d s = Token (record { 0 = d }) (record { 0 = s })
 
-abbrev pub between : ℕ → Access → ℕ → Access → Control → Head
+abbrev pub between : ℕ → Option Point → ℕ → Option Point → Control → Head
 between d to s from c =
     record { destination = record { 0 = d }; to = to; source = record { 0 = s }; from = from; control = c }
 
-abbrev pub at : ℕ → Access
-at p = At (record { 0 = p })
+abbrev pub at : ℕ → Option Point
+at p = Some (record { 0 = p })
 
 -- 1 "DC 03 02: token to 3 from 2"
 abbrev pub string1 : List ℕ

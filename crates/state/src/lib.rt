@@ -98,11 +98,20 @@ pub struct State {
     pub memory: Memory,
 }
 
+// The rows of both queues with their data areas, lent to a call.
+#[derive(Drop)]
+pub struct Rows<'a> {
+    pub high: &'a mut [u8],
+    pub high_area: &'a mut [u8],
+    pub low: &'a mut [u8],
+    pub low_area: &'a mut [u8],
+}
+
 // A request that the station shows its caller: its fields, and where its data lie in the frame.
 #[derive(Clone, Copy)]
-pub enum Indication {
-    None,
-    Shown(Head, Part),
+pub struct Indication {
+    pub head: Head,
+    pub part: Part,
 }
 
 // What an act on the site leaves: the core, how many octets to send, and after which wait.
@@ -120,51 +129,39 @@ pub struct Spoken {
     pub kept: Kept,
     pub length: usize,
     pub wait: BitTime,
-    pub indication: Indication,
+    pub indication: Option<Indication>,
 }
 
-// What frame, sent and slot answer where the arrays of the state are lent: the refusal or 0, the core and what the
-// memory keeps, how many octets to send and after which wait, and what is indicated.
+// What frame, sent and slot answer where the arrays of the state are lent: the core and what the memory keeps, how many
+// octets to send and after which wait, and what is indicated.
 #[derive(Clone, Copy)]
 pub struct Heard {
-    pub refused: u8,
     pub core: Core,
     pub kept: Kept,
     pub length: usize,
     pub wait: BitTime,
-    pub indication: Indication,
+    pub indication: Option<Indication>,
 }
 
-// What frame, sent and slot answer: the refusal or 0, the state, how many octets to send and after which wait, and what
-// is indicated.
+// What frame, sent and slot answer: the state, how many octets to send and after which wait, and what is indicated.
 #[derive(Clone, Copy)]
 pub struct Answer {
-    pub refused: u8,
     pub state: State,
     pub length: usize,
     pub wait: BitTime,
-    pub indication: Indication,
+    pub indication: Option<Indication>,
 }
 
-// What submit answers: the refusal or 0, the state, and the place taken.
+// What submit answers: the state, and the place taken.
 #[derive(Clone, Copy)]
 pub struct Accepted {
-    pub refused: u8,
     pub state: State,
     pub place: u8,
 }
 
-// What start and reset answer: the refusal or 0, and the state; where start refuses, a blank one that no call accepts.
-#[derive(Clone, Copy)]
-pub struct Renewed {
-    pub refused: u8,
-    pub state: State,
-}
-
-// What collect answers: the refusal or 0, the state, and the record handed back with its place's number.
+// What collect answers: the state, and the record handed back with its place's number.
 #[derive(Clone, Copy)]
 pub struct HandedBack {
-    pub refused: u8,
     pub state: State,
     pub place: u8,
     pub entry: Record,
@@ -188,6 +185,7 @@ pub enum Verdict {
 }
 
 // What a hold goes on with: a queue's first request, or the pass of the token.
+// Kept: no Option<Priority>, since the pass is something that is done, and None would say nothing of it.
 #[derive(Clone, Copy)]
 pub enum Choice {
     Serve(Priority),
@@ -213,6 +211,7 @@ pub enum Asks {
 }
 
 // What is given to a request: a short acknowledgement, or a reply with a code.
+// Kept: no Option<Code>, since an acknowledgement is an answer, and None would say that there is none.
 #[derive(Clone, Copy)]
 pub enum Given {
     Acknowledged,

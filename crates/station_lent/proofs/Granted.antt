@@ -4,6 +4,10 @@ use mathlib.Core.Bool.{Bool}
 use mathlib.Core.Path.{◌≡◌, sym, ◌∙◌}
 use mathlib.Core.List.{List}
 use lib.ListN.{length}
+use native.Mathlib.Omega.{arith}
+use Rattle.refusal.specs.declared.Refusal.{Refusal}
+use Rattle.refusal.specs.Refusal.{number}
+use Rattle.refusal.proofs.Numbers.{above_zero}
 use Rattle.choice.proofs.Rules.{pick_true, pick-false, same_true, same_false}
 use Rattle.state.specs.declared.Core.{Core}
 use Rattle.state.specs.declared.Kept.{Kept}
@@ -15,6 +19,10 @@ use Rattle.state.proofs.Facts.{sited, output-long, first_short, second_short, re
 use Rattle.state.proofs.Facts.{sdn-queued}
 use Rattle.phases.specs.Underway.{Underway}
 use Rattle.hearing.specs.Hears.{Listening}
+
+-- a refusal has a number, which is not 0
+pub numbered : (r : Refusal) → number r ≡ 0 → ⊥
+numbered r e = omega (arith, above_zero r, e)
 
 granted : {n : ℕ} (w : World) (d : Called) → n ≡ 0 → unless n w d ≡ d
 granted w d e = pick_true _ _ (same_true e)

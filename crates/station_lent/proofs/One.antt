@@ -1,12 +1,23 @@
 -- One result: two answers that meet a contract of the station's records, with what they leave in everything lent, are
 -- equal. Assumes nothing.
 use Prim.Native.Nat.{ℕ}
-use mathlib.Core.Path.{◌≡◌, sym, ap, ◌∙◌}
+use mathlib.Core.Path.{◌≡◌, refl, sym, ap, ◌∙◌}
 use mathlib.Core.List.{List, []}
+use native.Mathlib.Omega.{arith}
+use Rattle.choice.specs.Choice.{pick, same}
+use Rattle.refusal.specs.declared.Refusal.{Refusal}
+use Rattle.refusal.specs.declared.Refusal.TheVariants.{Empty, NoStart, Short, Length, Count, End, Checksum, Address}
+use Rattle.refusal.specs.declared.Refusal.TheVariants.{Control, Point, ToAll, Unit, Output, Setting, Row, Room}
+use Rattle.refusal.specs.declared.Refusal.TheVariants.{Destination, AccessPoint, Service, Data, Full, NoneConfirmed}
+use Rattle.refusal.specs.declared.Refusal.TheVariants.{State, Limit}
+use Rattle.refusal.specs.Refusal.{number}
+use Rattle.refusal.proofs.Numbers.{above_zero}
 use Rattle.laid.specs.Laid.{Lays}
 use Rattle.state.specs.declared.Core.{Core}
 use Rattle.state.specs.declared.Kept.{Kept}
-use Rattle.state.specs.declared.Heard.{Heard}
+use Rattle.state.specs.Told.{Heard, heard_by}
+use Rattle.state.specs.declared.Heard.{Heard as GivenHeard}
+use Rattle.std.specs.Prelude.{Option, Result, Ok, Err}
 use Rattle.state.specs.declared.Indication.{Indication}
 use Rattle.state.specs.declared.Moved.{Moved}
 use Rattle.state.specs.declared.Spoken.{Spoken}
@@ -15,6 +26,53 @@ use Rattle.state.specs.World.{Rows, Site, World, Event, Done, Called, rows}
 use Rattle.state.specs.Told.{Stands, stands, Sends, Does, Rechecks, Closes, Says}
 use Rattle.hearing.specs.Hears.{Hears}
 use Rattle.station_lent.specs.Acts.{Acts}
+
+-- ---- what the code answers is told apart by its answer as a record: a refusal by its number
+abbrev named : ℕ → Refusal
+named n =
+    pick (same n 1) Empty (pick (same n 2) NoStart (pick (same n 3) Short (pick (same n 4) Length (
+    pick (same n 5) Count (pick (same n 6) End (pick (same n 7) Checksum (pick (same n 8) Address (
+    pick (same n 9) Control (pick (same n 10) Point (pick (same n 11) ToAll (pick (same n 12) Unit (
+    pick (same n 13) Output (pick (same n 20) Setting (pick (same n 21) Row (pick (same n 22) Room (
+    pick (same n 23) Destination (pick (same n 24) AccessPoint (pick (same n 25) Service (
+    pick (same n 26) Data (pick (same n 27) Full (pick (same n 28) NoneConfirmed (pick (same n 29) State (
+    Limit)))))))))))))))))))))))
+
+named-number : (r : Refusal) → named (number r) ≡ r
+unfolding number pick same
+named-number Empty = refl
+named-number NoStart = refl
+named-number Short = refl
+named-number Length = refl
+named-number Count = refl
+named-number End = refl
+named-number Checksum = refl
+named-number Address = refl
+named-number Control = refl
+named-number Point = refl
+named-number ToAll = refl
+named-number Unit = refl
+named-number Output = refl
+named-number Setting = refl
+named-number Row = refl
+named-number Room = refl
+named-number Destination = refl
+named-number AccessPoint = refl
+named-number Service = refl
+named-number Data = refl
+named-number Full = refl
+named-number NoneConfirmed = refl
+named-number State = refl
+named-number Limit = refl
+
+pub one-heard : (c : Core) (k : Kept) (a b : Result GivenHeard Refusal) → heard_by c k a ≡ heard_by c k b → a ≡ b
+unfolding heard_by
+one-heard c k (Ok a) (Ok b) e =
+    ap (λ (h : Heard). Ok (record { core = h.core; kept = h.kept; length = h.length; wait = h.wait; indication = h.indication })) e
+one-heard c k (Err r) (Err s) e =
+    ap (λ (x : Refusal). Err x) (sym (named-number r) ∙ ap (λ (h : Heard). named h.refused) e ∙ named-number s)
+one-heard c k (Ok a) (Err s) e = absurd (omega (arith, above_zero s, ap (λ (h : Heard). h.refused) e))
+one-heard c k (Err r) (Ok b) e = absurd (omega (arith, above_zero r, ap (λ (h : Heard). h.refused) e))
 
 -- ---- sent and slot expired: the answer, the masters, the marks, both rows with their data, and the output
 pub record OneResult (r q : Heard) (masters masters' marks marks' : List ℕ) (high high' low low' : Rows)
@@ -76,7 +134,7 @@ moved_same r q e f g =
     ∙ ap (λ (n : ℕ). moved q.core n r.wait.0) f
     ∙ ap (λ (t : ℕ). moved q.core q.length t) g
 
-abbrev spoken : Kept → ℕ → ℕ → Indication → Spoken
+abbrev spoken : Kept → ℕ → ℕ → Option Indication → Spoken
 spoken k n t i = record { kept = k; length = n; wait = record { 0 = t }; indication = i }
 
 spoken-same : (r q : Spoken) → r.kept ≡ q.kept → r.length ≡ q.length → r.wait.0 ≡ q.wait.0
@@ -85,7 +143,7 @@ spoken-same r q e f g h =
     ap (λ (k : Kept). spoken k r.length r.wait.0 r.indication) e
     ∙ ap (λ (n : ℕ). spoken q.kept n r.wait.0 r.indication) f
     ∙ ap (λ (t : ℕ). spoken q.kept q.length t r.indication) g
-    ∙ ap (λ (i : Indication). spoken q.kept q.length q.wait.0 i) h
+    ∙ ap (λ (i : Option Indication). spoken q.kept q.length q.wait.0 i) h
 
 pub one-sends : {c : Core} {e : List Event} {out : List ℕ} {r q : Moved} {x x' : List ℕ} → Sends c e out r x
     → Sends c e out q x' → (r ≡ q) × (x ≡ x')

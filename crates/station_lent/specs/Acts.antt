@@ -3,7 +3,7 @@
 use Rattle.std.specs.Prelude.{ℕ, ◌≡◌, List}
 use Rattle.state.specs.declared.Core.{Core}
 use Rattle.state.specs.declared.Kept.{Kept}
-use Rattle.state.specs.declared.Heard.{Heard}
+use Rattle.state.specs.Told.{Heard}
 use Rattle.state.specs.World.{Rows, World, Called}
 use Rattle.state.specs.Told.{stands, standing, world_in}
 

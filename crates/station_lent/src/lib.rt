@@ -3,43 +3,19 @@
 #![tactic(auto)]
 
 ghost use Rattle.std.specs.Prelude.{◌≡◌, length};
-ghost use Rattle.state.specs.World.{rows};
 ghost use Rattle.state.specs.Calls.{frame as calls_frame, sent as calls_sent, slot as calls_slot};
-ghost use Rattle.state.specs.Told.{stands, standing, world_in};
+ghost use Rattle.state.specs.Told.{heard_by, stands, standing, world_in, high_in, low_in, SameRows};
 ghost use Rattle.station_lent.specs.Acts.{Acts};
 
+use answering::Caller;
 use clock::BitTime;
-use state::{Core, Heard, Indication, Kept};
+use refusal::Refusal;
+use state::{Core, Heard, Kept, Rows};
 
-// The answer of a refused call.
-fn refuse(refused: u8, core: Core, kept: Kept) -> Heard
-    ensures { result
-        ≡ record {
-          refused = refused;
-          core = core;
-          kept = kept;
-          length = 0;
-          wait = record { 0 = 0 };
-          indication =
-              Indication.None;
-        } }
-{
-    Heard {
-        refused,
-        core,
-        kept,
-        length: 0,
-        wait: BitTime(0),
-        indication: Indication::None,
-    }
-}
-
-// A frame, with the room for an indication and the two updates.
-pub fn frame<'a>(
+// A frame, with what the caller gives to an answer.
+pub fn frame(
     clock: BitTime,
-    room: bool,
-    first: &'a [u8],
-    second: &'a [u8],
+    caller: Caller,
     s: &[u8],
     c: Core,
     k: Kept,
@@ -48,42 +24,30 @@ pub fn frame<'a>(
     marks: &mut [u8; 127],
     points: &[u8; 64],
     octets: &mut [u8; 255],
-    high: &mut [u8],
-    harea: &mut [u8],
-    low: &mut [u8],
-    larea: &mut [u8],
+    rows: &mut Rows,
     out: &mut [u8],
-) -> Heard
-    ensures { stands result masters.new started.now marks.new points.now
-        octets.new (rows high.new harea.new)
-        (rows low.new larea.new) out.new
+) -> Result<Heard, Refusal>
+    ensures stands { stands (heard_by c k result) masters.new started.now marks.new points.now
+        octets.new (high_in rows.new) (low_in rows.new) out.new
         ≡ standing
-        (calls_frame clock.0 room first.now second.now s.now
-        (length out.old)
+        (calls_frame clock.0 caller.entry.room caller.entry.high.now caller.entry.low.now s.now (length out.old)
         (world_in c k masters.old started.now marks.old points.now
-        octets.old (rows high.old harea.old)
-        (rows low.old larea.old))) out.old }
+        octets.old (high_in rows.old) (low_in rows.old))) out.old }
+    ensures same { SameRows rows.old rows.new }
 {
-    let refused = refusals::refusal(
+    refusals::refusal(
         out.len(),
-        first.len(),
-        second.len(),
+        caller.high.len(),
+        caller.low.len(),
         c,
         masters,
         started,
         k,
-        high,
-        harea,
-        low,
-        larea,
-    );
-    if refused != 0 {
-        return refuse(refused, c, k);
-    }
-    hearing::hear(
-        clock, room, first, second, s, c, k, masters, marks, points, octets, high, harea, low,
-        larea, out,
-    )
+        rows,
+    )?;
+    Ok(hearing::hear(
+        clock, caller, s, c, k, masters, marks, points, octets, rows, out,
+    ))
 }
 
 // What was to be sent went out.
@@ -94,36 +58,17 @@ pub fn sent(
     masters: &[u8; 127],
     started: &[u8; 127],
     marks: &mut [u8; 127],
-    high: &mut [u8],
-    harea: &mut [u8],
-    low: &mut [u8],
-    larea: &mut [u8],
+    rows: &mut Rows,
     out: &mut [u8],
-) -> Heard
-    ensures { Acts (calls_sent clock.0 (length out.old)) c k masters.now
-        started.now marks.old (rows high.old harea.old)
-        (rows low.old larea.old) out.old result masters.now marks.new
-        (rows high.new harea.new) (rows low.new larea.new)
-        out.new }
+) -> Result<Heard, Refusal>
+    ensures acts { Acts (calls_sent clock.0 (length out.old)) c k masters.now started.now marks.old
+        (high_in rows.old) (low_in rows.old) out.old (heard_by c k result) masters.now marks.new
+        (high_in rows.new) (low_in rows.new) out.new }
+    ensures same { SameRows rows.old rows.new }
 {
-    let refused = refusals::refusal(
-        out.len(),
-        0,
-        0,
-        c,
-        masters,
-        started,
-        k,
-        high,
-        harea,
-        low,
-        larea,
-    );
-    if refused != 0 {
-        return refuse(refused, c, k);
-    }
-    let m = phases::sent_in(clock, c, masters, marks, high, harea, low, larea, out);
-    hearing::idle::moved(m, k)
+    refusals::refusal(out.len(), 0, 0, c, masters, started, k, rows)?;
+    let m = phases::sent_in(clock, c, masters, marks, rows, out);
+    Ok(hearing::idle::moved(m, k))
 }
 
 // Slot expired.
@@ -134,34 +79,15 @@ pub fn slot(
     masters: &mut [u8; 127],
     started: &[u8; 127],
     marks: &mut [u8; 127],
-    high: &mut [u8],
-    harea: &mut [u8],
-    low: &mut [u8],
-    larea: &mut [u8],
+    rows: &mut Rows,
     out: &mut [u8],
-) -> Heard
-    ensures { Acts (calls_slot clock.0 (length out.old)) c k masters.old
-        started.now marks.old (rows high.old harea.old)
-        (rows low.old larea.old) out.old result masters.new marks.new
-        (rows high.new harea.new) (rows low.new larea.new)
-        out.new }
+) -> Result<Heard, Refusal>
+    ensures acts { Acts (calls_slot clock.0 (length out.old)) c k masters.old started.now marks.old
+        (high_in rows.old) (low_in rows.old) out.old (heard_by c k result) masters.new marks.new
+        (high_in rows.new) (low_in rows.new) out.new }
+    ensures same { SameRows rows.old rows.new }
 {
-    let refused = refusals::refusal(
-        out.len(),
-        0,
-        0,
-        c,
-        masters,
-        started,
-        k,
-        high,
-        harea,
-        low,
-        larea,
-    );
-    if refused != 0 {
-        return refuse(refused, c, k);
-    }
-    let m = phases::slot_in(clock, c, masters, marks, high, harea, low, larea, out);
-    hearing::idle::moved(m, k)
+    refusals::refusal(out.len(), 0, 0, c, masters, started, k, rows)?;
+    let m = phases::slot_in(clock, c, masters, marks, rows, out);
+    Ok(hearing::idle::moved(m, k))
 }

@@ -2,17 +2,17 @@
 #![tactic(auto)]
 
 ghost use Rattle.std.specs.Prelude.{◌≡◌, ◌<◌, ◌≤◌, length, [], ◌∷◌};
-ghost use Rattle.state.specs.World.{rows, site_of, with_doing, a_token, sends};
+ghost use Rattle.state.specs.World.{with_doing, a_token, sends};
 ghost use Rattle.state.specs.Request.{once, wait_for};
 ghost use Rattle.state.specs.Pass.{token_to, ps_without};
 ghost use Rattle.state.specs.Hold.{token as hold_token};
 ghost use Rattle.state.specs.Refusals.{Lawful, Sited};
-ghost use Rattle.state.specs.Told.{Sends, Does, Rechecks};
+ghost use Rattle.state.specs.Told.{Sends, Does, Rechecks, high_in, low_in, site_in};
 
 use clock::BitTime;
 use frame::Address;
 use serve::exchange;
-use state::{Core, Moved};
+use state::{Core, Moved, Rows};
 use times::Sending;
 
 // Nothing is sent.
@@ -27,6 +27,7 @@ pub fn quiet(c: Core) -> Moved
 }
 
 // A token in Idle, to an address from another.
+#[tactic(auto, unfolding(choice::specs::Choice::pick, choice::specs::Choice::same, state::specs::Hold::token, state::specs::Hold::admit, state::specs::World::still, state::specs::World::with_core, state::specs::World::with_masters, state::specs::World::with_ps, state::specs::World::with_stranger, state::specs::Told::telling, state::specs::Told::untold, laid::specs::Laid::laid))]
 pub fn token(
     clock: BitTime,
     d: Address,
@@ -34,78 +35,64 @@ pub fn token(
     c: Core,
     masters: &mut [u8; 127],
     marks: &[u8; 127],
-    high: &[u8],
-    harea: &[u8],
-    low: &[u8],
-    larea: &[u8],
+    rows: &Rows,
     out: &mut [u8],
 ) -> Moved
-    requires { (Sited c (rows high.now harea.now) (rows low.now larea.now)) × (255 ≤ length out.old) }
+    requires { (Sited c (high_in rows.now) (low_in rows.now)) × (255 ≤ length out.old) }
     ensures { Does
-        (hold_token clock.0 d.0 a.0
-        (site_of c masters.old marks.now (rows high.now harea.now)
-        (rows low.now larea.now))) out.old result masters.new
-        marks.now (rows high.now harea.now)
-        (rows low.now larea.now) out.new }
+        (hold_token clock.0 d.0 a.0 (site_in c masters.old marks.now rows.now)) out.old result masters.new
+        marks.now (high_in rows.now) (low_in rows.now) out.new }
 {
-    let ts = c.ts;
-    let ps = c.ps;
-    let stranger = c.stranger;
-    if d.0 != ts.0 {
-        return quiet(c);
-    }
-    if a.0 == ts.0 {
-        return quiet(c);
-    }
-    if a.0 == ps.0 {
-        return serve::begin(clock, c, masters, marks, high, harea, low, larea, out);
-    }
-    if a.0 == stranger.0 {
+    if d.0 != c.ts.0 || a.0 == c.ts.0 {
+        quiet(c)
+    } else if a.0 == c.ps.0 {
+        serve::begin(clock, c, masters, marks, rows, out)
+    } else if a.0 == c.stranger.0 {
         ring::enter(masters, a);
         let core = acts::with_ps(a, c);
-        return serve::begin(clock, core, masters, marks, high, harea, low, larea, out);
+        serve::begin(clock, core, masters, marks, rows, out)
+    } else {
+        quiet(acts::with_stranger(a, c))
     }
-    quiet(acts::with_stranger(a, c))
 }
 
 // Sends the token to NS once more.
+#[tactic(auto, unfolding(state::specs::Pass::token_to, state::specs::Told::telling, state::specs::Told::adds))]
 fn pass_again(ns: Address, c: Core, out: &mut [u8]) -> Moved
     requires { (Lawful c) × ((ns.0 < 127) × ((c.doing.sendings < 255) × (255 ≤ length out.old))) }
     ensures { Sends (with_doing (once c.doing) c)
         (sends a_token (token_to ns.0 c) (wait_for c Sending.Other) ∷ []) out.old result out.new }
 {
-    let ts = c.ts;
-    let d = c.doing;
-    let length = exchange::lay_token(ns, ts, out);
+    let length = exchange::lay_token(ns, c.ts, out);
     let wait = acts::wait_for(c, Sending::Other);
     Moved {
-        core: acts::with_doing(acts::once(d), c),
+        core: acts::with_doing(acts::once(c.doing), c),
         length,
         wait,
     }
 }
 
 // PS when a station has left the set.
+#[tactic(auto, unfolding(choice::specs::Choice::pick, choice::specs::Choice::same, state::specs::Pass::ps_without))]
 fn ps_without(n: Address, masters: &[u8; 127], c: Core) -> Address
     requires { c.ts.0 < 127 }
     ensures { result.0 ≡ ps_without n.0 masters.now c }
 {
-    let ts = c.ts;
-    let ps = c.ps;
-    if n.0 == ps.0 {
-        return ring::previous(masters, ts);
+    if n.0 == c.ps.0 {
+        ring::previous(masters, c.ts)
+    } else {
+        c.ps
     }
-    ps
 }
 
 // Slot expiry while the pass is checked.
+#[tactic(auto, unfolding(choice::specs::Choice::pick, choice::specs::Choice::less, state::specs::Pass::recheck, state::specs::Pass::pass_again, state::specs::Pass::pass, state::specs::Pass::without, state::specs::Pass::ns, state::specs::World::with_core, state::specs::World::with_masters, state::specs::World::with_ps, state::specs::World::done))]
 pub fn recheck(c: Core, masters: &mut [u8; 127], out: &mut [u8]) -> Moved
     requires { (Lawful c) × (255 ≤ length out.old) }
     ensures { Rechecks c masters.old out.old result masters.new out.new }
 {
-    let d = c.doing;
     let ns = serve::next(c, masters);
-    if d.sendings < 3 {
+    if c.doing.sendings < 3 {
         return pass_again(ns, c, out);
     }
     ring::remove(masters, ns);

@@ -1,30 +1,37 @@
--- `answering::answer` meets its contract.
-use mathlib.Core.Bool.{Bool, true, false, true≢false}
-use mathlib.Core.Path.{◌≡◌, refl, sym, ◌∙◌}
-use Rattle.choice.specs.Choice.{pick, either}
-use Rattle.state.specs.Answering.{answered, answer}
-use Rattle.answering.proofs.answers.Says.{says_nothing}
+-- `answering::answer` meets its contract: what is said where nothing is replied.
+use mathlib.Core.Bool.{false}
+use native.Mathlib.Omega.{arith}
+use Rattle.std.proofs.lemmas.Grind.{common_steps}
+use Rattle.choice.specs.Choice.{pick, same, said}
+use Rattle.state.specs.Answering.{memory, active, answered, sdn_events, answer_as, answer_to, answer}
+use Rattle.answering.proofs.answers.Says.{says_none, says_shown}
 use Rattle.answering.proofs.answer.Goals as goal
 
--- two tests in a row with one outcome
-one_of : {A : Type 0} (a b : Bool) (x y : A) → either a b ≡ true → pick a x (pick b x y) ≡ x
-unfolding pick
-one_of true b x y e = refl
-one_of false true x y e = refl
-one_of false false x y e = absurd (true≢false (sym e))
+pub returns-in_default-clause-says : goal.returns-in_default-clause-says
+unfolding pick same answered answer_to answer
+returns-in_default-clause-says c =
+    let a = c.args in
+    let m = memory a.k a.octets.now in
+    let g = a.caller in
+    says_none m (answer a.responder a.points.now m g.room g.high.now g.low.now a.request.head a.request.part)
+    (grind (arith, common_steps)) c.silent.ensures
 
-none_of : {A : Type 0} (a b : Bool) (x y : A) → either a b ≡ false → pick a x (pick b x y) ≡ y
-unfolding pick
-none_of true b x y e = absurd (true≢false e)
-none_of false true x y e = absurd (true≢false e)
-none_of false false x y e = refl
+pub returns-in-Never-clause-says : goal.returns-in-Never-clause-says
+unfolding pick same answered answer_as answer_to answer
+returns-in-Never-clause-says c =
+    let a = c.args in
+    let m = memory a.k a.octets.now in
+    let g = a.caller in
+    says_none m (answer a.responder a.points.now m g.room g.high.now g.low.now a.request.head a.request.part)
+    (grind (arith, common_steps)) c.silent-in-Never.ensures
 
-pub returns-then-ours : goal.returns-then-ours
-unfolding answer
-returns-then-ours c =
-    rw (one_of _ _ _ _ (sym c.ours.ensures ∙ c.if-ours.true)) c.answer_to.ensures
-
-pub returns : goal.returns
-unfolding answer answered
-returns c =
-    rw (none_of _ _ _ _ (sym c.ours.ensures ∙ c.if-ours.false), c.silent.ensures) (record { says = says_nothing _ _; octets_after = refl })
+pub returns-in-Sdn-clause-says : goal.returns-in-Sdn-clause-says
+unfolding pick same answered sdn_events answer_as answer_to answer
+returns-in-Sdn-clause-says c =
+    let a = c.args in
+    let m = memory a.k a.octets.now in
+    let g = a.caller in
+    let r = a.request in
+    says_shown m (answer a.responder a.points.now m g.room g.high.now g.low.now r.head r.part)
+    (pick (said (active a.points.now r.head.to)) g.room false) r.head r.part
+    (grind (arith, common_steps)) c.answer_sdn.ensures

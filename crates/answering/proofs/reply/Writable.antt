@@ -8,21 +8,26 @@ use lib.ListN.{length}
 use Rattle.choice.proofs.Rules.{less-false, same_false, false-less, pick-false, pick-itself}
 use Rattle.control.specs.declared.Code.{Code}
 use Rattle.control.specs.Control.{fc, lawful}
-use Rattle.frame.specs.declared.Access.{Access}
-use Rattle.frame.specs.declared.Access.TheVariants.{None, At}
+use Rattle.std.specs.Prelude.{Option, None, Some}
+use Rattle.frame.specs.declared.Point.{Point}
 use Rattle.frame.specs.declared.Head.{Head}
+use Rattle.frame.specs.declared.Fields.{Fields}
 use Rattle.frame.specs.declared.Fields.TheVariants.{Frame}
-use Rattle.frame.specs.Format.{unit, outside, misdirected}
+use Rattle.frame.specs.Format.{unit, outside, misdirected, octets, written, left, wrote}
 use Rattle.frame.proofs.Lengths.{length-extension, length-unit}
-use Rattle.write.proofs.Laying.{Laying, Passed, laying-frame}
+use Rattle.laid.specs.Laid.{Lays}
+use Rattle.refusal.specs.declared.Refusal.{Refusal}
+use Rattle.std.specs.Prelude.{Result, Ok, Err}
+use Rattle.std.specs.Result.{result_unwrap_or}
+use Rattle.write.proofs.Laying.{Laying, Passed, laying-frame, never, lays}
 use Rattle.state.specs.declared.Responder.{Responder}
 use Rattle.state.specs.Answering.{UPDATE, Answerable, reply_head}
 
 -- an access point is inside 63 if inside 62
-wider : (a : Access) → outside a 62 ≡ false → outside a 63 ≡ false
+wider : (a : Option Point) → outside a 62 ≡ false → outside a 63 ≡ false
 unfolding outside
 wider None e = refl
-wider (At p) e = pick-itself _ ∙ less-false (omega (arith, false-less _ _ (sym (pick-itself _) ∙ e)))
+wider (Some p) e = pick-itself _ ∙ less-false (omega (arith, false-less _ _ (sym (pick-itself _) ∙ e)))
 
 module _ (r : Responder) (h : Head) (k : Code) (x : List ℕ) (a : Answerable h) (n : length x ≤ UPDATE) where
   units : length (unit (reply_head r h k) x) ≤ 246
@@ -48,3 +53,10 @@ module _ (r : Responder) (h : Head) (k : Code) (x : List ℕ) (a : Answerable h)
 
   pub laying-reply : (o : List ℕ) → r.ts.0 ≤ 126 → 255 ≤ length o → Laying (Frame (reply_head r h k)) x o
   laying-reply o t l = laying-frame (reply_head r h k) x o (reply-passed t) l
+
+-- the count of a frame that the writer does not refuse
+pub counted : {f : Fields} {x o m : List ℕ} → Laying f x o → (r : Result ℕ Refusal) → wrote r ≡ written f x o
+    → m ≡ left f x o → Lays o 0 (octets f x) 255 (result_unwrap_or r 0) m
+unfolding wrote
+counted w (Ok n) e l = lays w e l
+counted w (Err n) e l = never w e

@@ -1,6 +1,5 @@
 -- `conclude::close` meets its contract.
 use Rattle.serve.proofs.Sited.{ready-high, ready-low, served-waits}
-use Rattle.conclude.proofs.Closing.{closes-high, closes-low}
 use Rattle.conclude.proofs.close.Goals as goal
 
 pub close_in-requires : goal.close_in-requires
@@ -14,13 +13,3 @@ close_in-requires-in-Low c =
     let p = c.requires in
     let y = ready-low p.0 (served-waits _ _ c.in-Low.is p.1.0) in
     (y.core, (y.lent, (y.some, p.1.1)))
-
-pub returns-in-High : goal.returns-in-High
-returns-in-High c =
-    closes-high _ _ _ _ _ _ c.in-High.is c.close_in.ensures.area_after
-    c.close_in.ensures.marks_after
-
-pub returns-in-Low : goal.returns-in-Low
-returns-in-Low c =
-    closes-low _ _ _ _ _ _ c.in-Low.is c.close_in-in-Low.ensures.area_after
-    c.close_in-in-Low.ensures.marks_after

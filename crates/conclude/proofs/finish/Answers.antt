@@ -6,8 +6,8 @@ use Rattle.conclude.proofs.finish.Goals as goal
 pub choose-requires : goal.choose-requires
 choose-requires c =
     let p = c.requires in
-    (sited-closed _ _ _ _ _ _ p.0 p.1.1.0 p.1.0 c.close-core.ensures, p.1.1.1)
+    (sited-closed _ _ _ _ _ _ p.0 p.1.1.0 p.1.0 c.close-core.ensures.closes, p.1.1.1)
 
-pub returns : goal.returns
-returns c =
-    does-ended c.close-core.ensures _ c.choose.ensures
+pub returns-clause-does : goal.returns-clause-does
+returns-clause-does c =
+    does-ended c.close-core.ensures.closes _ c.choose.ensures

@@ -1,28 +1,23 @@
 -- A frame in Idle, by what it was read as. Assumes nothing.
 use Prim.Native.Nat.{ℕ}
 use mathlib.Core.Bool.{Bool}
-use mathlib.Core.Path.{◌≡◌, ap}
+use mathlib.Core.Path.{◌≡◌}
 use mathlib.Core.List.{List}
 use native.Mathlib.Omega.{arith}
-use Rattle.clock.specs.declared.BitTime.{BitTime}
-use Rattle.control.specs.declared.Kind.TheVariants.{InRing}
 use Rattle.frame.specs.declared.Address.{Address}
-use Rattle.frame.specs.declared.Answer.{Answer}
-use Rattle.frame.specs.declared.Answer.TheVariants.{Refused, Read}
+use Rattle.frame.specs.Reading.{Read}
 use Rattle.frame.specs.declared.Fields.{Fields}
-use Rattle.frame.specs.declared.Fields.TheVariants.{Token, Short, Frame}
+use Rattle.frame.specs.declared.Fields.TheVariants.{Token, Frame}
 use Rattle.frame.specs.declared.Head.{Head}
 use Rattle.frame.specs.declared.Part.{Part}
 use Rattle.frame.specs.Reading.{read}
-use Rattle.times.specs.declared.Sending.TheVariants.{Reply}
 use Rattle.state.specs.declared.Core.{Core}
 use Rattle.state.specs.declared.Kept.{Kept}
 use Rattle.state.specs.declared.Responder.{Responder}
 use Rattle.state.specs.World.{Rows, World}
-use Rattle.state.specs.Request.{wait_for}
 use Rattle.state.specs.Answering.{Asked, answer}
 use Rattle.state.specs.Hold.{token}
-use Rattle.state.specs.Calls.{called, replying, nothing, responder, idle, idle_read}
+use Rattle.state.specs.Calls.{called, replying, responder, idle}
 use Rattle.phases.proofs.Read.{readable}
 use Rattle.hearing.specs.Hears.{Listening, Sound}
 
@@ -32,25 +27,11 @@ module _ (clock : ℕ) (room : Bool) (first second : List ℕ) (p : Part) (w : W
   unfolding idle
   idle-token e = rw e
 
-  pub idle-short : f ≡ Short → idle clock room first second f p w ≡ nothing w
-  unfolding idle
-  idle-short e = rw e
-
   pub idle-frame : {h : Head} → f ≡ Frame h
       → idle clock room first second f p w
       ≡ replying (answer (responder w.site.core) w.points w.memory room first second h p) w
   unfolding idle
   idle-frame e = rw e
-
-module _ (clock : ℕ) (room : Bool) (first second : List ℕ) (w : World) {r : Answer} where
-  pub idle-bad : {n : ℕ} → r ≡ Refused n → idle_read clock room first second r w ≡ nothing w
-  unfolding idle_read
-  idle-bad e = rw e
-
-  pub idle-good : {f : Fields} {p : Part} → r ≡ Read f p
-      → idle_read clock room first second r w ≡ idle clock room first second f p w
-  unfolding idle_read
-  idle-good e = rw e
 
 -- what a read frame is known for
 pub sound-read : (s : List ℕ) {f : Fields} {p : Part} → read s ≡ Read f p → Sound f
@@ -69,9 +50,3 @@ asked {h = h} s e i l =
       lower = l.lower;
       room = l.room;
     }
-
--- what the master answers as, by the wait that was found
-pub handed-over : (c : Core) {w : BitTime} → w.0 ≡ wait_for c Reply
-    → record { ts = c.ts; kind = InRing; wait = w } ≡ responder c
-unfolding responder
-handed-over c e = ap (λ (n : ℕ). record { ts = c.ts; kind = InRing; wait = record { 0 = n } }) e

@@ -1,5 +1,5 @@
--- What a call leaves where an act was done, where a request was answered, and where nothing was done or the call is
--- refused: each is what the definition tells. Assumes nothing.
+-- What a call leaves where an act was done, where a request was answered, and where the call is refused: each is what
+-- the definition tells. Assumes nothing.
 use Prim.Native.Nat.{ℕ}
 use mathlib.Core.Path.{◌≡◌, refl}
 use mathlib.Core.List.{List}
@@ -9,15 +9,18 @@ use Rattle.laid.specs.Laid.{Lays}
 use Rattle.laid.proofs.Laws.{laid_nil}
 use Rattle.state.specs.declared.Core.{Core}
 use Rattle.state.specs.declared.Kept.{Kept}
-use Rattle.state.specs.declared.Heard.{Heard}
-use Rattle.state.specs.declared.Indication.TheVariants.{None}
+use Rattle.state.specs.Told.{Heard}
+use Rattle.state.specs.declared.Heard.{Heard as GivenHeard}
+use Rattle.refusal.specs.declared.Refusal.{Refusal}
+use Rattle.refusal.specs.Refusal.{number}
+use Rattle.std.specs.Prelude.{None, Result, Ok, Err}
 use Rattle.state.specs.declared.Moved.{Moved}
 use Rattle.state.specs.declared.Spoken.{Spoken}
 use Rattle.state.specs.declared.Responder.{Responder}
 use Rattle.state.specs.World.{Rows, Event, Done, with_site, with_memory}
 use Rattle.state.specs.Answering.{Answered, replies}
-use Rattle.state.specs.Calls.{called, replying, nothing, refuse}
-use Rattle.state.specs.Told.{Does, Says, telling, untold, adds, stands, standing, heard_of, world_in}
+use Rattle.state.specs.Calls.{called, replying, refuse}
+use Rattle.state.specs.Told.{Does, Says, telling, untold, adds, stands, standing, heard_by, heard_of, world_in}
 use Rattle.state.proofs.Refused.{Calm, unrefused}
 use Rattle.state.proofs.Answers.{Answers, none, replied, shown, Answering}
 
@@ -36,14 +39,26 @@ abbrev pub speaking : Core → Spoken → Heard
 speaking c s =
     record { refused = 0; core = c; kept = s.kept; length = s.length; wait = s.wait; indication = s.indication }
 
+-- the same as the code gives it
+pub heard-moved : (m : Moved) (k : Kept) (c' : Core) (k' : Kept) {a : GivenHeard}
+    → a ≡ record { core = m.core; kept = k; length = m.length; wait = m.wait; indication = None }
+    → heard_by c' k' (Ok a) ≡ moving m k
+unfolding heard_by
+heard-moved m k c' k' e = rw e
+
+pub heard-spoken : (c : Core) (s : Spoken) (c' : Core) (k' : Kept) {a : GivenHeard}
+    → a ≡ record { core = c; kept = s.kept; length = s.length; wait = s.wait; indication = s.indication }
+    → heard_by c' k' (Ok a) ≡ speaking c s
+unfolding heard_by
+heard-spoken c s c' k' e = rw e
+
+pub heard-refused : (c : Core) (k : Kept) (r : Refusal) {a : Result GivenHeard Refusal} → a ≡ Err r
+    → heard_by c k a ≡ refusing (number r) c k
+unfolding heard_by
+heard-refused c k r e = rw e
+
 module _ {c : Core} {k : Kept} {masters t marks points octets : List ℕ} {high low : Rows} {out : List ℕ}
     {r : Heard} where
-  pub stands-nothing : r ≡ refusing 0 c k
-      → stands r masters t marks points octets high low out
-      ≡ standing (nothing (world_in c k masters t marks points octets high low)) out
-  unfolding standing heard_of nothing telling untold
-  stands-nothing e = rw (e, laid_nil out 0)
-
   pub stands-refused : (n : ℕ) → r ≡ refusing n c k
       → stands r masters t marks points octets high low out
       ≡ standing (refuse n (world_in c k masters t marks points octets high low)) out

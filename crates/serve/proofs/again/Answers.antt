@@ -1,6 +1,5 @@
 -- `serve::again` meets its contract.
 use Rattle.serve.proofs.Sited.{ready-high, ready-low, served-waits}
-use Rattle.serve.proofs.Telling.{does-again-high, does-again-low}
 use Rattle.serve.proofs.again.Goals as goal
 
 pub send_again-requires : goal.send_again-requires
@@ -12,11 +11,3 @@ pub send_again-requires-in-Low : goal.send_again-requires-in-Low
 send_again-requires-in-Low c =
     let p = c.requires in
     (ready-low p.0 (served-waits _ _ c.in-Low.is p.1.0), p.1.1)
-
-pub returns-in-High : goal.returns-in-High
-returns-in-High c =
-    does-again-high _ c.in-High.is c.send_again.ensures
-
-pub returns-in-Low : goal.returns-in-Low
-returns-in-Low c =
-    does-again-low _ c.in-Low.is c.send_again-in-Low.ensures

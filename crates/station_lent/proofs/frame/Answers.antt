@@ -1,24 +1,30 @@
 -- `station_lent::frame` meets its contract.
-use mathlib.Core.Path.{sym, ◌∙◌}
-use Rattle.hearing.proofs.idle.Standing.{stands-refused}
-use Rattle.station_lent.proofs.Granted.{frame-granted, frame-denied, underway, listening}
+use mathlib.Core.Path.{refl, sym}
+use Rattle.std.proofs.lemmas.Result.{err_from_is_err_and}
+use Rattle.refusal.specs.Refusal.{refused}
+use Rattle.hearing.proofs.idle.Standing.{stands-refused, heard-refused}
+use Rattle.station_lent.proofs.Granted.{frame-granted, frame-denied, underway, listening, numbered}
 use Rattle.station_lent.proofs.frame.Goals as goal
 
-pub returns-then-refused-ne0 : goal.returns-then-refused-ne0
-returns-then-refused-ne0 c =
+pub returns-in_err-refusal-clause-stands : goal.returns-in_err-refusal-clause-stands
+unfolding refused
+returns-in_err-refusal-clause-stands c =
     let a = c.args in
+    let p = err_from_is_err_and c.from_residual.result c.from_residual.ensures.1 in
     rw
-    (frame-denied _ _ _ _ _ _ _ _ _ _ a.out.now _ a.first.now a.second.now _
-    c.refusal-refused.ensures c.if-refused-ne0.true) (stands-refused _ c.refuse.ensures)
+    (frame-denied _ _ _ _ _ _ _ _ _ _ a.out.now _ a.caller.high.now a.caller.low.now _ c.in_err-refusal.ensures (numbered _))
+    (stands-refused _ (heard-refused _ _ _ (rw p.2 at p.1)))
 
 pub hear-requires : goal.hear-requires
+unfolding refused
 hear-requires c =
-    let e = sym c.refusal-refused.ensures ∙ c.if-refused-ne0.false in
+    let e = sym c.in_ok-refusal.ensures in
     (listening _ _ _ _ _ _ _ _ _ e, underway _ _ _ _ _ _ _ _ _ e)
 
-pub returns : goal.returns
-returns c =
+pub returns-clause-stands : goal.returns-clause-stands
+unfolding refused
+returns-clause-stands c =
     let a = c.args in
     rw
-    (frame-granted _ _ _ _ _ _ _ _ _ _ a.out.now _ a.first.now a.second.now _
-    c.refusal-refused.ensures c.if-refused-ne0.false) (c.hear.ensures.told _)
+    (frame-granted _ _ _ _ _ _ _ _ _ _ a.out.now _ a.caller.high.now a.caller.low.now _ c.in_ok-refusal.ensures refl)
+    (c.hear.ensures.hears.told _)

@@ -1,26 +1,32 @@
 -- `station_lent::sent` meets its contract.
-use mathlib.Core.Path.{sym, ◌∙◌}
+use mathlib.Core.Path.{refl, sym}
+use Rattle.std.proofs.lemmas.Result.{err_from_is_err_and}
+use Rattle.refusal.specs.Refusal.{refused}
 use Rattle.state.proofs.Refused.{calm-sent}
 use Rattle.state.proofs.Facts.{sited, output-long}
-use Rattle.hearing.proofs.idle.Standing.{stands-refused, stands-does}
-use Rattle.station_lent.proofs.Granted.{sent-granted, sent-denied, underway}
+use Rattle.hearing.proofs.idle.Standing.{stands-refused, heard-refused, stands-does, heard-moved}
+use Rattle.station_lent.proofs.Granted.{sent-granted, sent-denied, underway, numbered}
 use Rattle.station_lent.proofs.sent.Goals as goal
 
-pub returns-then-refused-ne0 : goal.returns-then-refused-ne0
-returns-then-refused-ne0 c =
+pub returns-in_err-refusal-clause-acts : goal.returns-in_err-refusal-clause-acts
+unfolding refused
+returns-in_err-refusal-clause-acts c =
+    let p = err_from_is_err_and c.from_residual.result c.from_residual.ensures.1 in
     record {
-      told = λ p o. rw (sent-denied _ _ _ _ _ _ _ _ _ _ _ c.refusal-refused.ensures c.if-refused-ne0.true)
-          (stands-refused _ c.refuse.ensures);
+      told = λ a o. rw (sent-denied _ _ _ _ _ _ _ _ _ _ _ c.in_err-refusal.ensures (numbered _))
+          (stands-refused _ (heard-refused _ _ _ (rw p.2 at p.1)));
     }
 
 pub sent_in-m-requires : goal.sent_in-m-requires
+unfolding refused
 sent_in-m-requires c =
-    let e = sym c.refusal-refused.ensures ∙ c.if-refused-ne0.false in
+    let e = sym c.in_ok-refusal.ensures in
     (sited _ _ _ _ _ _ _ _ _ e, (underway _ _ _ _ _ _ _ _ _ e, output-long _ _ _ _ _ _ _ _ _ e))
 
-pub returns : goal.returns
-returns c =
+pub returns-clause-acts : goal.returns-clause-acts
+unfolding refused
+returns-clause-acts c =
     record {
-      told = λ p o. rw (sent-granted _ _ _ _ _ _ _ _ _ _ _ c.refusal-refused.ensures c.if-refused-ne0.false)
-          (stands-does _ _ _ _ _ _ (calm-sent _ _ _) c.sent_in-m.ensures c.moved.ensures);
+      told = λ a o. rw (sent-granted _ _ _ _ _ _ _ _ _ _ _ c.in_ok-refusal.ensures refl)
+          (stands-does _ _ _ _ _ _ (calm-sent _ _ _) c.sent_in-m.ensures.does (heard-moved _ _ _ _ c.moved.ensures));
     }

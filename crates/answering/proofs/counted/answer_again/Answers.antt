@@ -5,5 +5,4 @@ use Rattle.answering.proofs.counted.answer_again.Goals as goal
 
 pub returns : goal.returns
 unfolding recalled
-returns c =
-    says-reply c.args.responder c.recall-length.ensures
+returns c = says-reply c.args.responder (rw c.from.ensures at c.recall.ensures)

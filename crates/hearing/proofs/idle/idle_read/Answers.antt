@@ -1,25 +1,10 @@
 -- `hearing::idle::idle_read` meets its contract.
-use mathlib.Core.Path.{sym, ◌∙◌}
-use Rattle.hearing.proofs.idle.Standing.{stands-nothing}
-use Rattle.hearing.proofs.idle.Frames.{idle-bad, idle-good, sound-read}
+use mathlib.Core.Path.{sym}
+use Rattle.frame.specs.Reading.{answered}
+use Rattle.hearing.proofs.idle.Frames.{sound-read}
 use Rattle.hearing.proofs.idle.idle_read.Goals as goal
 
 pub idle-requires : goal.idle-requires
+unfolding answered
 idle-requires c =
-    (sound-read _ (sym c.read.ensures ∙ c.in-Read.is), c.requires)
-
-pub returns-in-Refused : goal.returns-in-Refused
-returns-in-Refused c =
-    record {
-      told = λ t.
-          rw (idle-bad _ _ _ _ _ (sym c.read.ensures ∙ c.in-Refused.is))
-          (stands-nothing (rw c.quiet.ensures at c.moved.ensures));
-    }
-
-pub returns-in-Read : goal.returns-in-Read
-returns-in-Read c =
-    record {
-      told = λ t.
-          rw (idle-good _ _ _ _ _ (sym c.read.ensures ∙ c.in-Read.is))
-          (c.idle.ensures.told t);
-    }
+    (rw c.in-Ok.f-is (sound-read _ (sym c.in-Ok.ensures)), c.requires)

@@ -1,7 +1,0 @@
--- `acts::wait_after` meets its contract.
-use Rattle.state.specs.Request.{wait_for}
-use Rattle.acts.proofs.wait_after.Goals as goal
-
-pub returns : goal.returns
-unfolding wait_for
-returns c = cc
