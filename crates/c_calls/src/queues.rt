@@ -1,20 +1,22 @@
 // The station's calls start, submit, collect and reset for a caller that holds the station as numbers and lends its
 // arrays: the state that they mean goes through the call and is handed over again. Assumes nothing.
+// Kept: the arrays are parameters of their own, because the C interface lends other ones to be written in each call.
 ghost use Rattle.std.specs.Prelude.{◌≡◌, []};
 ghost use Rattle.state.specs.World.{rows, world_of};
 ghost use Rattle.state.specs.Calls.{start as calls_start, reset as calls_reset, submit as calls_submit};
 ghost use Rattle.state.specs.Calls.{collect as calls_collect};
-ghost use Rattle.state.specs.Told.{lent, started_of, reset_of};
+ghost use Rattle.state.specs.Told.{SameRows, high_in, lent, low_in, started_of, reset_of};
 ghost use Rattle.c_core.specs.Handover.{state_in, filled, starting, held, resetting, lodged, submitting, collecting};
 ghost use Rattle.c_core.specs.Numbers.{settings_in};
 
+use c_core::handover;
 use c_core::handover::{FlatAccepted, FlatCollected, FlatRenewed};
 use c_core::numbers::{FlatSettings, Numbers};
-use c_core::{handover, numbers};
 use frame::Address;
 use request::Record;
 use ring::Masters;
-use state::{Points, Priority};
+use state::{Points, Priority, Rows};
+use times::Settings;
 
 // Starts a station with a set of masters, active access points and rows of so many places.
 pub fn start(
@@ -35,24 +37,19 @@ pub fn start(
         masters.now started.old marks.old points.now
         memory.old }
 {
-    let s = numbers::settings_in(settings);
     let a = station::start(
-        s,
+        Settings::from(settings),
         Address(ts),
         Masters(*masters),
         Points(*points),
         high,
         low,
     );
-    let set = a.state.started.0;
-    let bits = a.state.marks.0;
-    let octets = a.state.memory.octets;
-    if a.refused != 0 {
-        return handover::started(a);
+    if let Ok(s) = a {
+        started.copy_from_slice(&s.started.0);
+        marks.copy_from_slice(&s.marks.0);
+        memory.copy_from_slice(&s.memory.octets);
     }
-    *started = set;
-    *marks = bits;
-    *memory = octets;
     handover::started(a)
 }
 
@@ -114,28 +111,22 @@ pub fn reset(
     marks: &mut [u8; 127],
     points: &[u8; 64],
     memory: &[u8; 255],
-    high: &mut [u8],
-    harea: &mut [u8],
-    low: &mut [u8],
-    larea: &mut [u8],
+    rows: &mut Rows,
 ) -> FlatRenewed
-    ensures { held result masters.new started.now marks.new points.now
-        memory.now (rows high.new harea.new)
-        (rows low.new larea.new) []
+    ensures held { held result masters.new started.now marks.new points.now memory.now (high_in rows.new)
+        (low_in rows.new) []
         ≡ resetting n
         (reset_of
         (calls_reset
-        (world_of
-        (state_in n masters.old started.now marks.old
-        points.now memory.now)
-        (rows high.old harea.old)
-        (rows low.old larea.old)))) }
+        (world_of (state_in n masters.old started.now marks.old points.now memory.now) (high_in rows.old)
+        (low_in rows.old)))) }
+    ensures same { SameRows rows.old rows.new }
 {
     let s = handover::state_in(n, masters, started, marks, points, memory);
-    let a = station::reset(s, high, harea, low, larea);
-    let set = a.state.masters.0;
-    let bits = a.state.marks.0;
-    *masters = set;
-    *marks = bits;
+    let a = station::reset(s, rows);
+    if let Ok(s) = a {
+        masters.copy_from_slice(&s.masters.0);
+        marks.copy_from_slice(&s.marks.0);
+    }
     handover::renewed(n, a)
 }

@@ -1,19 +1,21 @@
 // The station's calls frame, sent and slot for a caller that holds the station as numbers and lends its arrays. Assumes
 // nothing.
+// Kept: the arrays are parameters of their own, because the C interface lends other ones to be written in each call.
 ghost use Rattle.std.specs.Prelude.{◌≡◌, length};
-ghost use Rattle.state.specs.World.{rows};
 ghost use Rattle.state.specs.Calls.{frame as calls_frame, sent as calls_sent, slot as calls_slot};
-ghost use Rattle.state.specs.Told.{standing, world_in};
+ghost use Rattle.state.specs.Told.{SameRows, high_in, low_in, standing, world_in};
 ghost use Rattle.c_core.specs.Numbers.{core_in, kept_in};
 ghost use Rattle.c_core.specs.Handover.{room_of, held, holding};
 
+use answering::Caller;
+use c_core::handover;
 use c_core::handover::FlatAnswer;
 use c_core::numbers::Numbers;
-use c_core::{handover, numbers};
 use clock::BitTime;
+use state::{Core, Kept, Rows};
 
 // A string of octets was heard, with the room for an indication and the two updates.
-pub fn hear<'a>(
+pub fn hear(
     n: Numbers,
     masters: &mut [u8; 127],
     started: &[u8; 127],
@@ -22,46 +24,39 @@ pub fn hear<'a>(
     memory: &mut [u8; 255],
     clock: u32,
     room: u8,
-    first: &'a [u8],
-    second: &'a [u8],
+    first: &[u8],
+    second: &[u8],
     octets: &[u8],
-    high: &mut [u8],
-    harea: &mut [u8],
-    low: &mut [u8],
-    larea: &mut [u8],
+    rows: &mut Rows,
     out: &mut [u8],
 ) -> FlatAnswer
-    ensures { held result masters.new started.now marks.new points.now
-        memory.new (rows high.new harea.new)
-        (rows low.new larea.new) out.new
+    ensures held { held result masters.new started.now marks.new points.now
+        memory.new (high_in rows.new) (low_in rows.new) out.new
         ≡ holding n
         (standing
         (calls_frame clock (room_of room) first.now second.now octets.now
         (length out.old)
         (world_in (core_in n) (kept_in n) masters.old started.now marks.old
-        points.now memory.old (rows high.old harea.old)
-        (rows low.old larea.old))) out.old) }
+        points.now memory.old (high_in rows.old) (low_in rows.old))) out.old) }
+    ensures same { SameRows rows.old rows.new }
 {
-    let c = numbers::core_in(n);
-    let k = numbers::kept_in(n);
-    let some = handover::room_of(room);
+    let caller = Caller {
+        room: handover::room_of(room),
+        high: first,
+        low: second,
+    };
     let a = station_lent::frame(
         BitTime(clock),
-        some,
-        first,
-        second,
+        caller,
         octets,
-        c,
-        k,
+        Core::from(n),
+        Kept::from(n),
         masters,
         started,
         marks,
         points,
         memory,
-        high,
-        harea,
-        low,
-        larea,
+        rows,
         out,
     );
     handover::answer(n, a)
@@ -76,35 +71,26 @@ pub fn sent(
     points: &[u8; 64],
     memory: &[u8; 255],
     clock: u32,
-    high: &mut [u8],
-    harea: &mut [u8],
-    low: &mut [u8],
-    larea: &mut [u8],
+    rows: &mut Rows,
     out: &mut [u8],
 ) -> FlatAnswer
-    ensures { held result masters.now started.now marks.new points.now
-        memory.now (rows high.new harea.new)
-        (rows low.new larea.new) out.new
+    ensures held { held result masters.now started.now marks.new points.now
+        memory.now (high_in rows.new) (low_in rows.new) out.new
         ≡ holding n
         (standing
         (calls_sent clock (length out.old)
         (world_in (core_in n) (kept_in n) masters.now started.now marks.old
-        points.now memory.now (rows high.old harea.old)
-        (rows low.old larea.old))) out.old) }
+        points.now memory.now (high_in rows.old) (low_in rows.old))) out.old) }
+    ensures same { SameRows rows.old rows.new }
 {
-    let c = numbers::core_in(n);
-    let k = numbers::kept_in(n);
     let a = station_lent::sent(
         BitTime(clock),
-        c,
-        k,
+        Core::from(n),
+        Kept::from(n),
         masters,
         started,
         marks,
-        high,
-        harea,
-        low,
-        larea,
+        rows,
         out,
     );
     handover::answer(n, a)
@@ -119,35 +105,26 @@ pub fn slot(
     points: &[u8; 64],
     memory: &[u8; 255],
     clock: u32,
-    high: &mut [u8],
-    harea: &mut [u8],
-    low: &mut [u8],
-    larea: &mut [u8],
+    rows: &mut Rows,
     out: &mut [u8],
 ) -> FlatAnswer
-    ensures { held result masters.new started.now marks.new points.now
-        memory.now (rows high.new harea.new)
-        (rows low.new larea.new) out.new
+    ensures held { held result masters.new started.now marks.new points.now
+        memory.now (high_in rows.new) (low_in rows.new) out.new
         ≡ holding n
         (standing
         (calls_slot clock (length out.old)
         (world_in (core_in n) (kept_in n) masters.old started.now marks.old
-        points.now memory.now (rows high.old harea.old)
-        (rows low.old larea.old))) out.old) }
+        points.now memory.now (high_in rows.old) (low_in rows.old))) out.old) }
+    ensures same { SameRows rows.old rows.new }
 {
-    let c = numbers::core_in(n);
-    let k = numbers::kept_in(n);
     let a = station_lent::slot(
         BitTime(clock),
-        c,
-        k,
+        Core::from(n),
+        Kept::from(n),
         masters,
         started,
         marks,
-        high,
-        harea,
-        low,
-        larea,
+        rows,
         out,
     );
     handover::answer(n, a)

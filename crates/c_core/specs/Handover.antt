@@ -9,10 +9,10 @@ use Rattle.state.specs.declared.Priority.{Priority}
 use Rattle.state.specs.declared.Core.{Core}
 use Rattle.state.specs.declared.Kept.{Kept}
 use Rattle.state.specs.declared.State.{State}
-use Rattle.state.specs.declared.Accepted.{Accepted}
-use Rattle.state.specs.declared.HandedBack.{HandedBack}
-use Rattle.state.specs.declared.Renewed.{Renewed}
-use Rattle.state.specs.declared.Heard.{Heard}
+use Rattle.state.specs.Told.{Accepted}
+use Rattle.state.specs.Told.{HandedBack}
+use Rattle.state.specs.Told.{Renewed}
+use Rattle.state.specs.Told.{Heard}
 use Rattle.state.specs.World.{Rows, Called, rows_of}
 use Rattle.state.specs.Told.{Leaves, Stands, accepted_of, handed_back_of}
 use Rattle.c_core.specs.declared.numbers.Numbers.{Numbers}

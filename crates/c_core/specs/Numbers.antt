@@ -1,6 +1,6 @@
 -- What the C boundary holds of a station: its core and what its memory keeps as one struct of numbers, and an
 -- indication as another. 255 stands for "no access point". Assumes nothing.
-use Rattle.std.specs.Prelude.{ℕ, Bool, true, false}
+use Rattle.std.specs.Prelude.{ℕ, Bool, true, false, Option, None, Some}
 use Rattle.choice.specs.Choice.{pick, less, same, said}
 use Rattle.control.specs.Control.{fc}
 use Rattle.frame.specs.declared.Address.{Address}
@@ -15,7 +15,6 @@ use Rattle.state.specs.declared.Hold.{Hold}
 use Rattle.state.specs.declared.Core.{Core}
 use Rattle.state.specs.declared.Kept.{Kept}
 use Rattle.state.specs.declared.Indication.{Indication}
-use Rattle.state.specs.declared.Indication.TheVariants.{None, Shown}
 use Rattle.frame.specs.Access.{point_of}
 use Rattle.c_core.specs.declared.numbers.FlatSettings.{FlatSettings}
 use Rattle.c_core.specs.declared.numbers.Numbers.{Numbers}
@@ -144,17 +143,17 @@ numbers_of c k =
     }
 
 -- ---- an indication as numbers
-unfoldable pub indication_of : Indication → FlatIndication
+unfoldable pub indication_of : Option Indication → FlatIndication
 indication_of None =
     record { indicated = 0; control = 0; destination = 0; to = 255; source = 0; from = 255; start = 0; count = 0 }
-indication_of (Shown h p) =
+indication_of (Some i) =
     record {
       indicated = 1;
-      control = fc h.control;
-      destination = h.destination.0;
-      to = point_of h.to;
-      source = h.source.0;
-      from = point_of h.from;
-      start = p.start;
-      count = p.count;
+      control = fc i.head.control;
+      destination = i.head.destination.0;
+      to = point_of i.head.to;
+      source = i.head.source.0;
+      from = point_of i.head.from;
+      start = i.part.start;
+      count = i.part.count;
     }

@@ -1,13 +1,15 @@
 // What the C boundary holds of a station: numbers for the core and for what the memory keeps, and for an indication.
 // Every number is taken; where one stands for no case, the station has TS 127, which every call refuses. Assumes
 // nothing.
+#![tactic(auto, unfolding(choice::specs::Choice::pick, choice::specs::Choice::same, choice::specs::Choice::less, choice::specs::Choice::said, crate::specs::Numbers::phase_number, crate::specs::Numbers::phase_of, crate::specs::Numbers::served_number, crate::specs::Numbers::served_of, crate::specs::Numbers::flag_number, crate::specs::Numbers::flag_of, crate::specs::Numbers::malformed, crate::specs::Numbers::ts_in, crate::specs::Numbers::settings_in, crate::specs::Numbers::settings_of, crate::specs::Numbers::doing_in, crate::specs::Numbers::hold_in, crate::specs::Numbers::high_in, crate::specs::Numbers::low_in, crate::specs::Numbers::core_in, crate::specs::Numbers::kept_in, crate::specs::Numbers::numbers_of, crate::specs::Numbers::indication_of))]
+
 ghost use Rattle.std.specs.Prelude.{◌≡◌};
-ghost use Rattle.c_core.specs.Numbers.{phase_number, phase_of, served_number, served_of, flag_number, flag_of};
-ghost use Rattle.c_core.specs.Numbers.{malformed as numbers_malformed, ts_in, settings_in, settings_of, doing_in};
-ghost use Rattle.c_core.specs.Numbers.{hold_in, high_in, low_in, core_in, kept_in, numbers_of, indication_of};
+ghost use Rattle.c_core.specs.Numbers.{phase_of, served_of, malformed as numbers_malformed, ts_in, settings_in};
+ghost use Rattle.c_core.specs.Numbers.{settings_of, doing_in, hold_in, high_in, low_in, core_in, kept_in};
+ghost use Rattle.c_core.specs.Numbers.{numbers_of, indication_of};
 
 use clock::BitTime;
-use frame::{Address, Head, Part};
+use frame::Address;
 use queue::Queue;
 use state::{Core, Doing, Hold, Indication, Kept, Phase, Priority};
 use times::{Count, Settings};
@@ -70,42 +72,15 @@ pub struct FlatIndication {
     pub count: usize,
 }
 
-fn phase_number(p: Phase) -> u8
-    ensures { result ≡ phase_number p }
-{
-    match p {
-        Phase::Idle => 0,
-        Phase::Awaited => 1,
-        Phase::Sdn => 2,
-        Phase::Check => 3,
-        Phase::ToSelf => 4,
-    }
-}
-
 fn phase_of(n: u8) -> Phase
     ensures { result ≡ phase_of n }
 {
-    if n == 1 {
-        return Phase::Awaited;
-    }
-    if n == 2 {
-        return Phase::Sdn;
-    }
-    if n == 3 {
-        return Phase::Check;
-    }
-    if n == 4 {
-        return Phase::ToSelf;
-    }
-    Phase::Idle
-}
-
-fn served_number(p: Priority) -> u8
-    ensures { result ≡ served_number p }
-{
-    match p {
-        Priority::High => 0,
-        Priority::Low => 1,
+    match n {
+        1 => Phase::Awaited,
+        2 => Phase::Sdn,
+        3 => Phase::Check,
+        4 => Phase::ToSelf,
+        _ => Phase::Idle,
     }
 }
 
@@ -113,111 +88,92 @@ fn served_of(n: u8) -> Priority
     ensures { result ≡ served_of n }
 {
     if n == 1 {
-        return Priority::Low;
+        Priority::Low
+    } else {
+        Priority::High
     }
-    Priority::High
-}
-
-fn flag_number(b: bool) -> u8
-    ensures { result ≡ flag_number b }
-{
-    if b {
-        return 1;
-    }
-    0
-}
-
-fn flag_of(n: u8) -> bool
-    ensures { result ≡ flag_of n }
-{
-    if n == 1 {
-        return true;
-    }
-    false
 }
 
 // Whether a number stands for no case.
 fn malformed(phase: u8, served: u8, sdn: u8, bit: u8) -> bool
     ensures { result ≡ numbers_malformed phase served sdn bit }
 {
-    if 4 < phase {
-        return true;
-    }
-    if 1 < served {
-        return true;
-    }
-    if 1 < sdn {
-        return true;
-    }
-    if 1 < bit {
-        return true;
-    }
-    false
+    4 < phase || 1 < served || 1 < sdn || 1 < bit
 }
 
 fn ts_in(n: Numbers) -> Address
     ensures { result ≡ ts_in n }
 {
-    let ts = n.ts;
-    if malformed(n.phase, n.served, n.sdn, n.bit) {
-        return Address(127);
-    }
+    let ts = if malformed(n.phase, n.served, n.sdn, n.bit) {
+        127
+    } else {
+        n.ts
+    };
     Address(ts)
 }
 
 // The settings that numbers mean.
-pub fn settings_in(s: FlatSettings) -> Settings
-    ensures { result ≡ settings_in s }
-{
-    Settings {
-        tset: BitTime(s.tset),
-        tqui: BitTime(s.tqui),
-        mintsdr: BitTime(s.mintsdr),
-        maxtsdr: BitTime(s.maxtsdr),
-        ttd: BitTime(s.ttd),
-        ttr: BitTime(s.ttr),
-        retries: Count(s.retries),
-        tsdi: BitTime(s.tsdi),
+impl From<FlatSettings> for Settings {
+    fn from(s: FlatSettings) -> Settings
+        ensures { result ≡ settings_in s }
+    {
+        Settings {
+            tset: BitTime(s.tset),
+            tqui: BitTime(s.tqui),
+            mintsdr: BitTime(s.mintsdr),
+            maxtsdr: BitTime(s.maxtsdr),
+            ttd: BitTime(s.ttd),
+            ttr: BitTime(s.ttr),
+            retries: Count(s.retries),
+            tsdi: BitTime(s.tsdi),
+        }
     }
 }
 
 // The numbers of settings.
-pub fn settings_of(s: Settings) -> FlatSettings
-    ensures { result ≡ settings_of s }
-{
-    FlatSettings {
-        tset: s.tset.0,
-        tqui: s.tqui.0,
-        mintsdr: s.mintsdr.0,
-        maxtsdr: s.maxtsdr.0,
-        ttd: s.ttd.0,
-        ttr: s.ttr.0,
-        retries: s.retries.0,
-        tsdi: s.tsdi.0,
+impl From<Settings> for FlatSettings {
+    fn from(s: Settings) -> FlatSettings
+        ensures { result ≡ settings_of s }
+    {
+        FlatSettings {
+            tset: s.tset.0,
+            tqui: s.tqui.0,
+            mintsdr: s.mintsdr.0,
+            maxtsdr: s.maxtsdr.0,
+            ttd: s.ttd.0,
+            ttr: s.ttr.0,
+            retries: s.retries.0,
+            tsdi: s.tsdi.0,
+        }
     }
 }
 
-fn doing_in(n: Numbers) -> Doing
-    ensures { result ≡ doing_in n }
-{
-    Doing {
-        phase: phase_of(n.phase),
-        served: served_of(n.served),
-        sendings: n.sendings,
-        sdn: flag_of(n.sdn),
+impl From<Numbers> for Doing {
+    fn from(n: Numbers) -> Doing
+        ensures { result ≡ doing_in n }
+    {
+        Doing {
+            phase: phase_of(n.phase),
+            served: served_of(n.served),
+            sendings: n.sendings,
+            sdn: n.sdn == 1,
+        }
     }
 }
 
-fn hold_in(n: Numbers) -> Hold
-    ensures { result ≡ hold_in n }
-{
-    Hold {
-        acceptance: BitTime(n.acceptance),
-        before: BitTime(n.before),
-        begun: n.begun,
+impl From<Numbers> for Hold {
+    fn from(n: Numbers) -> Hold
+        ensures { result ≡ hold_in n }
+    {
+        Hold {
+            acceptance: BitTime(n.acceptance),
+            before: BitTime(n.before),
+            begun: n.begun,
+        }
     }
 }
 
+// Kept: twins, because the C interface has the numbers of both queues as fields of one struct.
 fn high_in(n: Numbers) -> Queue
     ensures { result ≡ high_in n }
 {
@@ -241,29 +197,33 @@ fn low_in(n: Numbers) -> Queue
 }
 
 // The core that numbers mean.
-pub fn core_in(n: Numbers) -> Core
-    ensures { result ≡ core_in n }
-{
-    Core {
-        settings: settings_in(n.settings),
-        ts: ts_in(n),
-        ps: Address(n.ps),
-        stranger: Address(n.stranger),
-        doing: doing_in(n),
-        hold: hold_in(n),
-        high: high_in(n),
-        low: low_in(n),
+impl From<Numbers> for Core {
+    fn from(n: Numbers) -> Core
+        ensures { result ≡ core_in n }
+    {
+        Core {
+            settings: Settings::from(n.settings),
+            ts: ts_in(n),
+            ps: Address(n.ps),
+            stranger: Address(n.stranger),
+            doing: Doing::from(n),
+            hold: Hold::from(n),
+            high: high_in(n),
+            low: low_in(n),
+        }
     }
 }
 
 // What the memory keeps, as numbers mean it.
-pub fn kept_in(n: Numbers) -> Kept
-    ensures { result ≡ kept_in n }
-{
-    Kept {
-        source: Address(n.source),
-        bit: flag_of(n.bit),
-        length: n.length,
+impl From<Numbers> for Kept {
+    fn from(n: Numbers) -> Kept
+        ensures { result ≡ kept_in n }
+    {
+        Kept {
+            source: Address(n.source),
+            bit: n.bit == 1,
+            length: n.length,
+        }
     }
 }
 
@@ -271,77 +231,56 @@ pub fn kept_in(n: Numbers) -> Kept
 pub fn numbers_of(c: Core, k: Kept) -> Numbers
     ensures { result ≡ numbers_of c k }
 {
-    let hold = c.hold;
-    let doing = c.doing;
-    let phase = doing.phase;
-    let served = doing.served;
-    let high = c.high;
-    let low = c.low;
     Numbers {
-        settings: settings_of(c.settings),
-        acceptance: hold.acceptance.0,
-        before: hold.before.0,
+        settings: FlatSettings::from(c.settings),
+        acceptance: c.hold.acceptance.0,
+        before: c.hold.before.0,
         ts: c.ts.0,
         ps: c.ps.0,
         stranger: c.stranger.0,
-        phase: phase_number(phase),
-        served: served_number(served),
-        sendings: doing.sendings,
-        sdn: flag_number(doing.sdn),
-        begun: hold.begun,
-        highplaces: high.places,
-        highfirst: high.first,
-        highconfirmed: high.confirmed,
-        highunconfirmed: high.unconfirmed,
-        lowplaces: low.places,
-        lowfirst: low.first,
-        lowconfirmed: low.confirmed,
-        lowunconfirmed: low.unconfirmed,
+        phase: c.doing.phase as u8,
+        served: c.doing.served as u8,
+        sendings: c.doing.sendings,
+        sdn: u8::from(c.doing.sdn),
+        begun: c.hold.begun,
+        highplaces: c.high.places,
+        highfirst: c.high.first,
+        highconfirmed: c.high.confirmed,
+        highunconfirmed: c.high.unconfirmed,
+        lowplaces: c.low.places,
+        lowfirst: c.low.first,
+        lowconfirmed: c.low.confirmed,
+        lowunconfirmed: c.low.unconfirmed,
         source: k.source.0,
-        bit: flag_number(k.bit),
+        bit: u8::from(k.bit),
         length: k.length,
     }
 }
 
-fn shown(h: Head, p: Part) -> FlatIndication
-    ensures { result ≡ indication_of (Indication.Shown h p) }
-{
-    let to = h.to;
-    let from = h.from;
-    let control = h.control;
-    FlatIndication {
-        indicated: 1,
-        control: control::fc(control),
-        destination: h.destination.0,
-        to: frame::point_of(to),
-        source: h.source.0,
-        from: frame::point_of(from),
-        start: p.start,
-        count: p.count,
-    }
-}
-
-fn unshown() -> FlatIndication
-    ensures { result ≡ indication_of Indication.None }
-{
-    FlatIndication {
-        indicated: 0,
-        control: 0,
-        destination: 0,
-        to: 255,
-        source: 0,
-        from: 255,
-        start: 0,
-        count: 0,
-    }
-}
-
 // An indication as numbers.
-pub fn indication(i: Indication) -> FlatIndication
+pub fn indication(i: Option<Indication>) -> FlatIndication
     ensures { result ≡ indication_of i }
 {
     match i {
-        Indication::None => unshown(),
-        Indication::Shown(h, p) => shown(h, p),
+        Some(Indication { head, part }) => FlatIndication {
+            indicated: 1,
+            control: control::fc(head.control),
+            destination: head.destination.0,
+            to: frame::point_of(head.to),
+            source: head.source.0,
+            from: frame::point_of(head.from),
+            start: part.start,
+            count: part.count,
+        },
+        None => FlatIndication {
+            indicated: 0,
+            control: 0,
+            destination: 0,
+            to: frame::NONE,
+            source: 0,
+            from: frame::NONE,
+            start: 0,
+            count: 0,
+        },
     }
 }

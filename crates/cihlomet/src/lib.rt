@@ -1,5 +1,6 @@
 // The C boundary: the reader, the writer, the lister and the station for programs in C. Numbers go in and structs of
 // numbers come out; every number is taken, and out-of-rule ones are refused. Assumes nothing.
+// Kept: calls of the high and of the low queue are twins, and arrays stand apart, because the C interface has them so.
 #![tactic(auto)]
 
 ghost use Rattle.std.specs.Prelude.{◌≡◌, [], length};
@@ -18,12 +19,12 @@ ghost use Rattle.capture.specs.Listing.{listed, left as listing_left};
 ghost use Rattle.c_frames.specs.Flat.{token_from, flat as flat_flat, flat_written, writes, leaves};
 
 use c_calls::{queues, turns};
+use c_core::handover;
 use c_core::handover::{FlatAccepted, FlatAnswer, FlatCollected, FlatRenewed};
 use c_core::numbers::{FlatSettings, Numbers};
-use c_core::{handover, numbers};
 use c_frames::{FlatFrame, FlatWritten};
 use frame::{Address, Fields};
-use state::Priority;
+use state::{Priority, Rows};
 
 // Reads a frame.
 #[unsafe(no_mangle)]
@@ -83,7 +84,7 @@ pub extern "C" fn cihlomet_list(capture: &[u8], out: &mut [u8]) -> usize
 pub extern "C" fn cihlomet_standard() -> FlatSettings
     ensures { result ≡ settings_of standard }
 {
-    numbers::settings_of(times::standard())
+    FlatSettings::from(times::standard())
 }
 
 // Starts a station with a set of masters, active access points and rows of so many places.
@@ -137,9 +138,13 @@ pub extern "C" fn cihlomet_reset(
         (rows high.old harea.old)
         (rows low.old larea.old)))) }
 {
-    queues::reset(
-        n, masters, started, marks, points, memory, high, harea, low, larea,
-    )
+    let mut rows = Rows {
+        high,
+        high_area: harea,
+        low,
+        low_area: larea,
+    };
+    queues::reset(n, masters, started, marks, points, memory, &mut rows)
 }
 
 // Submits a request to the high queue.
@@ -300,7 +305,7 @@ pub extern "C" fn cihlomet_collect_low(
 
 // A string of octets was heard, with the room for an indication and the two updates.
 #[unsafe(no_mangle)]
-pub extern "C" fn cihlomet_hear<'a>(
+pub extern "C" fn cihlomet_hear(
     n: Numbers,
     masters: &mut [u8; 127],
     started: &[u8; 127],
@@ -309,8 +314,8 @@ pub extern "C" fn cihlomet_hear<'a>(
     memory: &mut [u8; 255],
     clock: u32,
     room: u8,
-    first: &'a [u8],
-    second: &'a [u8],
+    first: &[u8],
+    second: &[u8],
     octets: &[u8],
     high: &mut [u8],
     harea: &mut [u8],
@@ -329,9 +334,15 @@ pub extern "C" fn cihlomet_hear<'a>(
         points.now memory.old (rows high.old harea.old)
         (rows low.old larea.old))) out.old) }
 {
+    let mut rows = Rows {
+        high,
+        high_area: harea,
+        low,
+        low_area: larea,
+    };
     turns::hear(
-        n, masters, started, marks, points, memory, clock, room, first, second, octets, high,
-        harea, low, larea, out,
+        n, masters, started, marks, points, memory, clock, room, first, second, octets, &mut rows,
+        out,
     )
 }
 
@@ -361,8 +372,14 @@ pub extern "C" fn cihlomet_sent(
         points.now memory.now (rows high.old harea.old)
         (rows low.old larea.old))) out.old) }
 {
+    let mut rows = Rows {
+        high,
+        high_area: harea,
+        low,
+        low_area: larea,
+    };
     turns::sent(
-        n, masters, started, marks, points, memory, clock, high, harea, low, larea, out,
+        n, masters, started, marks, points, memory, clock, &mut rows, out,
     )
 }
 
@@ -392,7 +409,13 @@ pub extern "C" fn cihlomet_slot(
         points.now memory.now (rows high.old harea.old)
         (rows low.old larea.old))) out.old) }
 {
+    let mut rows = Rows {
+        high,
+        high_area: harea,
+        low,
+        low_area: larea,
+    };
     turns::slot(
-        n, masters, started, marks, points, memory, clock, high, harea, low, larea, out,
+        n, masters, started, marks, points, memory, clock, &mut rows, out,
     )
 }

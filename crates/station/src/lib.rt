@@ -4,200 +4,121 @@
 #![tactic(auto)]
 
 ghost use Rattle.std.specs.Prelude.{◌≡◌, length};
-ghost use Rattle.state.specs.World.{rows, world_of};
+ghost use Rattle.state.specs.World.{world_of};
 ghost use Rattle.state.specs.Calls.{frame as calls_frame, sent as calls_sent, slot as calls_slot};
-ghost use Rattle.state.specs.Told.{leaves, told};
+ghost use Rattle.state.specs.Told.{SameRows, answered_by, high_in, leaves, low_in, told};
 
+use answering::Caller;
 use clock::BitTime;
-use ring::Masters;
-use state::{Answer, Marks, Memory, State};
+use refusal::Refusal;
+use state::{Answer, Heard, Memory, Rows, State};
 pub use station_queues::{collect, submit};
 pub use station_start::{reset, start};
 
-// A frame, with the room for an indication and the two updates.
-pub fn frame<'a>(
-    s: State,
-    clock: BitTime,
-    room: bool,
-    first: &'a [u8],
-    second: &'a [u8],
-    octets: &[u8],
-    high: &mut [u8],
-    harea: &mut [u8],
-    low: &mut [u8],
-    larea: &mut [u8],
-    out: &mut [u8],
-) -> Answer
-    ensures { leaves result (rows high.new harea.new)
-        (rows low.new larea.new) out.new
-        ≡ told
-        (calls_frame clock.0 room first.now second.now octets.now
-        (length out.old)
-        (world_of s (rows high.old harea.old)
-        (rows low.old larea.old))) out.old }
+// The answer of a call to which the arrays of a state were lent.
+fn answer(state: State, h: Heard) -> Answer
+    ensures { result
+        ≡ record {
+          state =
+              record {
+                core = h.core;
+                masters = state.masters;
+                started = state.started;
+                marks = state.marks;
+                points = state.points;
+                memory = record { kept = h.kept; octets = state.memory.octets };
+              };
+          length = h.length;
+          wait = h.wait;
+          indication = h.indication;
+        } }
 {
-    let core = s.core;
-    let set = s.masters;
-    let mut masters = set.0;
-    let first_set = s.started;
-    let started = first_set.0;
-    let bits = s.marks;
-    let mut marks = bits.0;
-    let active = s.points;
-    let points = active.0;
-    let memory = s.memory;
-    let kept = memory.kept;
-    let mut remembered = memory.octets;
-    let h = station_lent::frame(
-        clock,
-        room,
-        first,
-        second,
-        octets,
-        core,
-        kept,
-        &mut masters,
-        &started,
-        &mut marks,
-        &points,
-        &mut remembered,
-        high,
-        harea,
-        low,
-        larea,
-        out,
-    );
-    let core = h.core;
-    let kept = h.kept;
-    let wait = h.wait;
-    let indication = h.indication;
     Answer {
-        refused: h.refused,
         state: State {
-            core,
-            masters: Masters(masters),
-            started: first_set,
-            marks: Marks(marks),
-            points: active,
+            core: h.core,
             memory: Memory {
-                kept,
-                octets: remembered,
+                kept: h.kept,
+                ..state.memory
             },
+            ..state
         },
         length: h.length,
-        wait,
-        indication,
+        wait: h.wait,
+        indication: h.indication,
     }
+}
+
+// A frame, with what the caller gives to an answer.
+pub fn frame(
+    s: State,
+    clock: BitTime,
+    caller: Caller,
+    octets: &[u8],
+    rows: &mut Rows,
+    out: &mut [u8],
+) -> Result<Answer, Refusal>
+    ensures told { leaves (answered_by s result) (high_in rows.new) (low_in rows.new) out.new
+        ≡ told
+        (calls_frame clock.0 caller.entry.room caller.entry.high.now caller.entry.low.now octets.now (length out.old)
+        (world_of s (high_in rows.old) (low_in rows.old))) out.old }
+    ensures same { SameRows rows.old rows.new }
+{
+    let mut state = s;
+    let h = station_lent::frame(
+        clock,
+        caller,
+        octets,
+        s.core,
+        s.memory.kept,
+        &mut state.masters.0,
+        &state.started.0,
+        &mut state.marks.0,
+        &state.points.0,
+        &mut state.memory.octets,
+        rows,
+        out,
+    )?;
+    Ok(answer(state, h))
 }
 
 // What was to be sent went out.
-pub fn sent(
-    s: State,
-    clock: BitTime,
-    high: &mut [u8],
-    harea: &mut [u8],
-    low: &mut [u8],
-    larea: &mut [u8],
-    out: &mut [u8],
-) -> Answer
-    ensures { leaves result (rows high.new harea.new)
-        (rows low.new larea.new) out.new
+pub fn sent(s: State, clock: BitTime, rows: &mut Rows, out: &mut [u8]) -> Result<Answer, Refusal>
+    ensures told { leaves (answered_by s result) (high_in rows.new) (low_in rows.new) out.new
         ≡ told
-        (calls_sent clock.0 (length out.old)
-        (world_of s (rows high.old harea.old)
-        (rows low.old larea.old))) out.old }
+        (calls_sent clock.0 (length out.old) (world_of s (high_in rows.old) (low_in rows.old))) out.old }
+    ensures same { SameRows rows.old rows.new }
 {
-    let core = s.core;
-    let set = s.masters;
-    let masters = set.0;
-    let first_set = s.started;
-    let started = first_set.0;
-    let bits = s.marks;
-    let mut marks = bits.0;
-    let points = s.points;
-    let memory = s.memory;
-    let kept = memory.kept;
-    let octets = memory.octets;
+    let mut state = s;
     let h = station_lent::sent(
-        clock, core, kept, &masters, &started, &mut marks, high, harea, low, larea, out,
-    );
-    let core = h.core;
-    let kept = h.kept;
-    let wait = h.wait;
-    let indication = h.indication;
-    Answer {
-        refused: h.refused,
-        state: State {
-            core,
-            masters: Masters(masters),
-            started: first_set,
-            marks: Marks(marks),
-            points,
-            memory: Memory { kept, octets },
-        },
-        length: h.length,
-        wait,
-        indication,
-    }
+        clock,
+        s.core,
+        s.memory.kept,
+        &state.masters.0,
+        &state.started.0,
+        &mut state.marks.0,
+        rows,
+        out,
+    )?;
+    Ok(answer(state, h))
 }
 
 // Slot expired.
-pub fn slot(
-    s: State,
-    clock: BitTime,
-    high: &mut [u8],
-    harea: &mut [u8],
-    low: &mut [u8],
-    larea: &mut [u8],
-    out: &mut [u8],
-) -> Answer
-    ensures { leaves result (rows high.new harea.new)
-        (rows low.new larea.new) out.new
+pub fn slot(s: State, clock: BitTime, rows: &mut Rows, out: &mut [u8]) -> Result<Answer, Refusal>
+    ensures told { leaves (answered_by s result) (high_in rows.new) (low_in rows.new) out.new
         ≡ told
-        (calls_slot clock.0 (length out.old)
-        (world_of s (rows high.old harea.old)
-        (rows low.old larea.old))) out.old }
+        (calls_slot clock.0 (length out.old) (world_of s (high_in rows.old) (low_in rows.old))) out.old }
+    ensures same { SameRows rows.old rows.new }
 {
-    let core = s.core;
-    let set = s.masters;
-    let mut masters = set.0;
-    let first_set = s.started;
-    let started = first_set.0;
-    let bits = s.marks;
-    let mut marks = bits.0;
-    let points = s.points;
-    let memory = s.memory;
-    let kept = memory.kept;
-    let octets = memory.octets;
+    let mut state = s;
     let h = station_lent::slot(
         clock,
-        core,
-        kept,
-        &mut masters,
-        &started,
-        &mut marks,
-        high,
-        harea,
-        low,
-        larea,
+        s.core,
+        s.memory.kept,
+        &mut state.masters.0,
+        &state.started.0,
+        &mut state.marks.0,
+        rows,
         out,
-    );
-    let core = h.core;
-    let kept = h.kept;
-    let wait = h.wait;
-    let indication = h.indication;
-    Answer {
-        refused: h.refused,
-        state: State {
-            core,
-            masters: Masters(masters),
-            started: first_set,
-            marks: Marks(marks),
-            points,
-            memory: Memory { kept, octets },
-        },
-        length: h.length,
-        wait,
-        indication,
-    }
+    )?;
+    Ok(answer(state, h))
 }

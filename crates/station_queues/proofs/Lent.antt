@@ -5,16 +5,23 @@ use mathlib.Core.Bool.{Bool, true, false}
 use mathlib.Core.Path.{◌≡◌, refl, sym, ap, ◌∙◌}
 use mathlib.Core.List.{List, [], ◌∷◌}
 use Rattle.choice.specs.Choice.{pick, said, same}
+use Rattle.std.specs.Prelude.{Result, Ok, Err, length}
 use Rattle.choice.proofs.Rules.{pick_true, pick-false, same_true, same_false, true_same, false_same, passed}
-use Rattle.choice.proofs.Rules.{is_said}
+use Rattle.choice.proofs.Rules.{is_said, if-same, unless-same}
+use Rattle.refusal.specs.declared.Refusal.{Refusal}
+use Rattle.refusal.specs.Refusal.{number}
+use Rattle.refusal.proofs.Numbers.{above_zero}
 use Rattle.request.specs.declared.Record.{Record}
-use Rattle.request.specs.Record.{limited}
+use Rattle.request.specs.Record.{SIZE, limited}
 use Rattle.queue.specs.declared.Queue.{Queue}
-use Rattle.queue.specs.declared.Taken.{Taken}
-use Rattle.queue.specs.declared.Collected.{Collected}
-use Rattle.queue.specs.declared.Collected.TheVariants.{Refused, Handed}
-use Rattle.queue.specs.Queue.{Ruled, refuse, take}
-use Rattle.rows.specs.Rows.{Lent, Left, left}
+use Rattle.queue.specs.Queue.{Taken}
+use Rattle.queue.specs.Queue.{Collected}
+use Rattle.queue.specs.Queue.{Refused, Handed}
+use Rattle.queue.specs.declared.Taken.{Taken as Takes}
+use Rattle.queue.specs.declared.Handed.{Handed as Hands}
+use Rattle.queue.specs.Queue.{Ruled, refuse, take, misfit, taken_of, collected_of}
+use Rattle.queue.specs.Queue.{accepted as queue_accepted}
+use Rattle.rows.specs.Rows.{Lent, Left, left, submitted, handed}
 use Rattle.rows.proofs.Submitted.{Outcome, outcome}
 use Rattle.rows.proofs.Submitted.Outcome.{as_it_was, with_it}
 use Rattle.state.specs.declared.Priority.{Priority}
@@ -22,7 +29,10 @@ use Rattle.state.specs.declared.Priority.TheVariants.{High, Low}
 use Rattle.state.specs.declared.Core.{Core}
 use Rattle.state.specs.declared.Kept.{Kept}
 use Rattle.state.specs.declared.State.{State}
-use Rattle.state.specs.declared.Accepted.{Accepted}
+use Rattle.state.specs.Told.{Accepted}
+use Rattle.state.specs.declared.Accepted.{Accepted as GivenAccepted}
+use Rattle.state.specs.declared.HandedBack.{HandedBack as GivenHandedBack}
+use Rattle.state.specs.Told.{accepted_by, handed_back_by}
 use Rattle.state.specs.World.{Rows, World, Done, rows, accepted, refused, done, queue_of, rows_of, with_queue, with_core}
 use Rattle.state.specs.World.{with_rows, with_site, world_of, state_of, state_with}
 use Rattle.state.specs.Refusals.{unlent, lawless}
@@ -104,23 +114,31 @@ module _ (p : Priority) (c : Core) (masters started : List ℕ) (k : Kept) (n : 
       → ((taking p c masters started k n x r).row ≡ r.row) × ((taking p c masters started k n x r).area ≡ r.area)
   taking-kept h = taking-kept-by _ _ refl refl h
 
--- where neither refuses, the queue's counts are in order, and the row and the data area are its own
-pub unrefused-lent : (p : Priority) (c : Core) (masters started : List ℕ) (k : Kept) (r : Rows)
-    → refusal_of (unlent (queue_of p c) r) c masters started k ≡ 0 → Ruled (queue_of p c) × Lent (queue_of p c) r.row
-    r.area
-unfolding refusal_of
-unrefused-lent p c masters started k r e =
-    let u = passed _ 21 _ (omega arith) e in
-    let l = passed _ 29 _ (omega arith) u.1 in
-    (ruled-of c p (lawful c masters started k (is_said l.0)), lent_rows (queue_of p c) r (is_said u.0))
+-- where neither refuses, the queue's counts are in order, the row and the data area are its own, and the station's
+-- retry limit is in its rule
+pub record Ready (p : Priority) (c : Core) (r : Rows) : Type 0 where
+  pub ruled : Ruled (queue_of p c)
+  pub lent : Lent (queue_of p c) r.row r.area
+  pub limit : c.settings.retries.0 ≤ 15
 
--- and the station's retry limit is in its rule
-pub unrefused-limit : (c : Core) (masters started : List ℕ) (k : Kept) (u : Bool)
-    → refusal_of u c masters started k ≡ 0 → c.settings.retries.0 ≤ 15
+pub unrefused : (p : Priority) (c : Core) (masters started : List ℕ) (k : Kept) (r : Rows)
+    → 0 ≡ refusal_of (unlent (queue_of p c) r) c masters started k → Ready p c r
 unfolding refusal_of
-unrefused-limit c masters started k u e =
-    let l = passed _ 29 _ (omega arith) (passed _ 21 _ (omega arith) e).1 in
-    (lawful c masters started k (is_said l.0)).retries
+unrefused p c masters started k r e =
+    let u = passed _ 21 _ (omega arith) (sym e) in
+    let l = passed _ 29 _ (omega arith) u.1 in
+    let w = lawful c masters started k (is_said l.0) in
+    record { ruled = ruled-of c p w; lent = lent_rows (queue_of p c) r (is_said u.0); limit = w.retries }
+
+-- the refusal as the code finds it, of the queue and the lengths of what is lent
+module _ (s : State) (p : Priority) (row area : List ℕ) {q : Queue} {m : ℕ} (b : q ≡ queue_of p s.core)
+    (e : m ≡ refusal_of (misfit q SIZE (length row) (length area)) s.core s.masters.0 s.started.0 s.memory.kept) where
+  found : m ≡ refusal_of (unlent (queue_of p s.core) (rows row area)) s.core s.masters.0 s.started.0 s.memory.kept
+  unfolding unlent
+  found = rw b at e
+
+  pub ready : m ≡ 0 → Ready p s.core (rows row area)
+  ready z = unrefused _ _ _ _ _ _ (rw z at found)
 
 -- the call, refused and carried out, by what the code finds
 module _ (s : State) (p : Priority) (n : Record) (x row area : List ℕ) {t : Taken} {row' area' : List ℕ}
@@ -164,6 +182,48 @@ module _ (s : State) (p : Priority) (n : Record) (x row area : List ℕ) {t : Ta
       ≡ submitted_of p (Calls.submit p n x (lent p s (rows row area)))
   submit-by-decision = submit-either _ refl
 
+-- the call, by what the code finds: the queue and its refusal, and then what the row's own submit answers
+module _ (s : State) (p : Priority) (n : Record) (x row area : List ℕ) {q : Queue} {m : ℕ} (b : q ≡ queue_of p s.core)
+    (e : m ≡ refusal_of (misfit q SIZE (length row) (length area)) s.core s.masters.0 s.started.0 s.memory.kept) where
+  pub submit-declined : (k : Refusal) {a : Result GivenAccepted Refusal} → a ≡ Err k → m ≡ number k
+      → left (accepted_by s a) row area ≡ submitted_of p (Calls.submit p n x (lent p s (rows row area)))
+  unfolding accepted_by accepted_for taking refuse
+  submit-declined k h z =
+      let pos = above_zero k in
+      let f = rw z at (found s p row area b e) in
+      rw h
+      (ap (λ (a : Accepted). left a row area) (unless-same _ (λ w. omega arith) refl)
+      ∙ submit-by-decision s p n x row area {t = refuse (number k) (queue_of p s.core) n}
+      (rw (← f) (unless-same _ (λ w. omega arith) refl)))
+
+  abbrev said_of : Result Takes Refusal → Taken
+  said_of t = taken_of q (limited s.core.settings.retries.0 n) t
+
+  decided_as : m ≡ 0 → {t : Taken} {row' area' : List ℕ}
+      → left t row' area' ≡ submitted s.core.ts.0 q (limited s.core.settings.retries.0 n) x row area
+      → left t row' area' ≡ taking p s.core s.masters.0 s.started.0 s.memory.kept n x (rows row area)
+  unfolding taking
+  decided_as z g = rw (← found s p row area b e) (if-same _ z (rw b at g))
+
+  pub submit-undone : m ≡ 0 → (k : Refusal) {a : Result GivenAccepted Refusal} {row' area' : List ℕ} → a ≡ Err k
+      → left (said_of (Err k)) row' area'
+      ≡ submitted s.core.ts.0 q (limited s.core.settings.retries.0 n) x row area
+      → left (accepted_by s a) row' area' ≡ submitted_of p (Calls.submit p n x (lent p s (rows row area)))
+  unfolding accepted_by accepted_for taken_of refuse
+  submit-undone z k {row' = row'} {area' = area'} h g =
+      let pos = above_zero k in
+      rw h
+      (ap (λ (a : Accepted). left a row' area') (unless-same _ (λ w. omega arith) refl)
+      ∙ submit-by-decision s p n x row area (decided_as z g))
+
+  pub submit-done : m ≡ 0 → (t : Takes) (a : GivenAccepted) {row' area' : List ℕ}
+      → accepted_by s (Ok a) ≡ accepted_for p (queue_accepted t) s
+      → left (said_of (Ok t)) row' area'
+      ≡ submitted s.core.ts.0 q (limited s.core.settings.retries.0 n) x row area
+      → left (accepted_by s (Ok a)) row' area' ≡ submitted_of p (Calls.submit p n x (lent p s (rows row area)))
+  unfolding taken_of
+  submit-done z t a h g = rw h (submit-by-decision s p n x row area (decided_as z g))
+
 -- ---- collect
 uncollecting : (p : Priority) (k : ℕ) (w : World) → called (collecting p (Refused k) w.site) w ≡ Calls.refuse k w
 unfolding called collecting done with_site Calls.refuse
@@ -190,8 +250,33 @@ handed-by High (Handed k n q) s r = refl
 handed-by Low (Refused k) s r = refl
 handed-by Low (Handed k n q) s r = refl
 
--- the call, by what was decided
-module _ (s : State) (p : Priority) (row area : List ℕ) {c : Collected}
-    (e : c ≡ handing p s.core s.masters.0 s.started.0 s.memory.kept (rows row area)) where
-  pub collect-hand : hand_of p c s ≡ handed_back_of (Calls.collect p (lent p s (rows row area)))
-  collect-hand = rw e (handed-by p _ s (rows row area) ∙ ap handed_back_of (collect-by s (rows row area) p))
+-- the call, by what the code finds
+module _ (s : State) (p : Priority) (row area : List ℕ) {q : Queue} {m : ℕ} (b : q ≡ queue_of p s.core)
+    (e : m ≡ refusal_of (misfit q SIZE (length row) (length area)) s.core s.masters.0 s.started.0 s.memory.kept) where
+  collect-hand : {c : Collected} → c ≡ handing p s.core s.masters.0 s.started.0 s.memory.kept (rows row area)
+      → hand_of p c s ≡ handed_back_of (Calls.collect p (lent p s (rows row area)))
+  collect-hand h = rw h (handed-by p _ s (rows row area) ∙ ap handed_back_of (collect-by s (rows row area) p))
+
+  pub collect-declined : (k : Refusal) {a : Result GivenHandedBack Refusal} → a ≡ Err k → m ≡ number k
+      → handed_back_by s a ≡ handed_back_of (Calls.collect p (lent p s (rows row area)))
+  unfolding handed_back_by hand_of handing
+  collect-declined k h z =
+      let pos = above_zero k in
+      let f = rw z at (found s p row area b e) in
+      rw h (collect-hand {c = Refused (number k)} (rw (← f) (unless-same _ (λ w. omega arith) refl)))
+
+  found_as : m ≡ 0 → {c : Collected} → c ≡ handed q row
+      → c ≡ handing p s.core s.masters.0 s.started.0 s.memory.kept (rows row area)
+  unfolding handing
+  found_as z g = rw (← found s p row area b e) (if-same _ z (rw b at g))
+
+  pub collect-undone : m ≡ 0 → (k : Refusal) {a : Result GivenHandedBack Refusal} → a ≡ Err k
+      → collected_of (Err k) ≡ handed q row
+      → handed_back_by s a ≡ handed_back_of (Calls.collect p (lent p s (rows row area)))
+  unfolding handed_back_by hand_of collected_of
+  collect-undone z k h g = rw h (collect-hand (found_as z g))
+
+  pub collect-done : m ≡ 0 → (t : Hands) (a : GivenHandedBack) → handed_back_by s (Ok a) ≡ hand_of p (collected_of (Ok t)) s
+      → collected_of (Ok t) ≡ handed q row
+      → handed_back_by s (Ok a) ≡ handed_back_of (Calls.collect p (lent p s (rows row area)))
+  collect-done z t a h g = rw h (collect-hand (found_as z g))

@@ -4,16 +4,16 @@ use Rattle.std.specs.Prelude.{ℕ, Bool, List}
 use Rattle.choice.specs.Choice.{pick, same, said}
 use Rattle.request.specs.declared.Record.{Record}
 use Rattle.request.specs.Record.{limited}
-use Rattle.queue.specs.declared.Taken.{Taken}
-use Rattle.queue.specs.declared.Collected.{Collected}
-use Rattle.queue.specs.declared.Collected.TheVariants.{Refused}
+use Rattle.queue.specs.Queue.{Taken}
+use Rattle.queue.specs.Queue.{Collected}
+use Rattle.queue.specs.Queue.{Refused}
 use Rattle.queue.specs.Queue.{refuse}
 use Rattle.rows.specs.Rows.{Left, left, submitted, handed}
 use Rattle.state.specs.declared.Priority.{Priority}
 use Rattle.state.specs.declared.Core.{Core}
 use Rattle.state.specs.declared.Kept.{Kept}
 use Rattle.state.specs.declared.State.{State}
-use Rattle.state.specs.declared.Accepted.{Accepted}
+use Rattle.state.specs.Told.{Accepted}
 use Rattle.state.specs.World.{Rows, queue_of, with_queue, state_with}
 use Rattle.state.specs.Refusals.{unlent, lawless}
 

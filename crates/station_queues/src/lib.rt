@@ -1,43 +1,36 @@
 // The station's calls submit and collect: each takes any state, any row and any octets, and answers. Assumes nothing.
 #![tactic(auto)]
 
-ghost use Rattle.std.specs.Prelude.{◌≡◌, ◌≤◌};
+ghost use Rattle.std.specs.Prelude.{◌≡◌, ◌≤◌, Ok};
+ghost use Rattle.refusal.specs.Refusal.{refused};
 ghost use Rattle.request.specs.Record.{limited as record_limited};
-ghost use Rattle.queue.specs.Queue.{misfit};
+ghost use Rattle.queue.specs.Queue.{accepted, collected_of, misfit};
 ghost use Rattle.rows.specs.Rows.{left};
 ghost use Rattle.state.specs.World.{rows};
 ghost use Rattle.state.specs.Calls.{submit as calls_submit, collect as calls_collect};
-ghost use Rattle.state.specs.Told.{untold, lent, submitted_of, handed_back_of, hand_of};
-ghost use Rattle.station_queues.specs.Decided.{refusal_of, accepted_for, taking as decided_taking};
-ghost use Rattle.station_queues.specs.Decided.{handing as decided_handing};
+ghost use Rattle.state.specs.Told.{accepted_by, hand_of, handed_back_by, handed_back_of, lent, submitted_of};
+ghost use Rattle.station_queues.specs.Decided.{refusal_of, accepted_for};
 
-use frame::{Address, Point};
-use queue::{Collected, Queue, Taken};
+use queue::{Handed, Queue, Taken};
+use refusal::Refusal;
 use request::Record;
-use state::{Accepted, Core, HandedBack, Kept, Priority, State};
+use state::{Accepted, Core, HandedBack, Priority, State};
 
-// The refusal of submit and collect for the state, or for a row of so many octets or records, so many for each place,
-// and a data area of so many octets; or 0.
-pub fn refusal(
-    q: Queue,
-    c: Core,
-    masters: &[u8; 127],
-    started: &[u8; 127],
-    k: Kept,
-    each: usize,
-    row: usize,
-    area: usize,
-) -> u8
+// The refusal of submit and collect, if there is one: for the state, or for a row of so many octets or records, so many
+// for each place, and a data area of so many octets.
+#[tactic(auto, unfolding(choice::specs::Choice::pick, choice::specs::Choice::said, refusal::specs::Refusal::number, refusal::specs::Refusal::refused, crate::specs::Decided::refusal_of))]
+pub fn refusal(s: &State, q: Queue, each: usize, row: usize, area: usize) -> Result<(), Refusal>
     requires { each ≤ 255 }
-    ensures { result ≡ refusal_of (misfit q each row area) c masters.now started.now k }
+    ensures { refused result
+        ≡ refusal_of (misfit q each row area) s.now.core s.now.masters.0 s.now.started.0 s.now.memory.kept }
 {
     if queue::misfit(q, each, row, area) {
-        return 21;
+        return Err(Refusal::Row);
     }
-    if refusals::lawless(c, masters, started, k) {
-        return 29;
+    if refusals::lawless(s.core, &s.masters.0, &s.started.0, s.memory.kept) {
+        return Err(Refusal::State);
     }
-    0
+    Ok(())
 }
 
 // A record with the limit that it goes by at a station of that core.
@@ -45,62 +38,19 @@ pub fn limited(c: Core, r: Record) -> Record
     requires { c.settings.retries.0 ≤ 15 }
     ensures { result ≡ record_limited c.settings.retries.0 r }
 {
-    let settings = c.settings;
-    request::limited(settings.retries.0 as u8, r)
-}
-
-// What submit decides, and puts in the row and the data area.
-fn taking(
-    p: Priority,
-    c: Core,
-    masters: &[u8; 127],
-    started: &[u8; 127],
-    k: Kept,
-    r: Record,
-    x: &[u8],
-    row: &mut [u8],
-    area: &mut [u8],
-) -> Taken
-    ensures { left result row.new area.new
-        ≡ decided_taking p c masters.now started.now k r x.now
-        (rows row.old area.old) }
-{
-    let ts = c.ts;
-    let q = acts::queue_of(p, c);
-    let n = refusal(
-        q,
-        c,
-        masters,
-        started,
-        k,
-        request::SIZE,
-        row.len(),
-        area.len(),
-    );
-    if n != 0 {
-        return queue::refuse(n, q, r);
-    }
-    rows::submit(ts, q, limited(c, r), x, row, area)
+    request::limited(c.settings.retries.0 as u8, r)
 }
 
 // What submit answers, by what it decided.
+#[tactic(auto, unfolding(choice::specs::Choice::pick, choice::specs::Choice::same, queue::specs::Queue::accepted, state::specs::Told::accepted_by, state::specs::World::state_with, crate::specs::Decided::accepted_for))]
 pub fn accepting(s: State, p: Priority, t: Taken) -> Accepted
-    ensures { result ≡ accepted_for p t s }
+    ensures { accepted_by s (Ok result) ≡ accepted_for p (accepted t) s }
 {
-    let core = s.core;
-    let queue = t.queue;
-    let mut state = s;
-    if t.refused != 0 {
-        return Accepted {
-            refused: t.refused,
-            state,
-            place: 0,
-        };
-    }
-    state.core = acts::with_queue(p, queue, core);
     Accepted {
-        refused: 0,
-        state,
+        state: State {
+            core: acts::with_queue(p, t.queue, s.core),
+            ..s
+        },
         place: t.place,
     }
 }
@@ -113,105 +63,38 @@ pub fn submit(
     x: &[u8],
     row: &mut [u8],
     area: &mut [u8],
-) -> Accepted
-    ensures { left result row.new area.new
+) -> Result<Accepted, Refusal>
+    ensures { left (accepted_by s result) row.new area.new
         ≡ submitted_of p
         (calls_submit p r x.now (lent p s (rows row.old area.old))) }
 {
-    let core = s.core;
-    let masters = s.masters.0;
-    let started = s.started.0;
-    let kept = s.memory.kept;
-    let t = taking(p, core, &masters, &started, kept, r, x, row, area);
-    accepting(s, p, t)
-}
-
-// What collect decides.
-fn handing(
-    p: Priority,
-    c: Core,
-    masters: &[u8; 127],
-    started: &[u8; 127],
-    k: Kept,
-    row: &[u8],
-    area: &[u8],
-) -> Collected
-    ensures { result
-        ≡ decided_handing p c masters.now started.now k
-        (rows row.now area.now) }
-{
-    let q = acts::queue_of(p, c);
-    let n = refusal(
-        q,
-        c,
-        masters,
-        started,
-        k,
-        request::SIZE,
-        row.len(),
-        area.len(),
-    );
-    if n != 0 {
-        return Collected::Refused(n);
-    }
-    rows::collect(q, row)
-}
-
-// The record that stands for none.
-fn no_record() -> Record
-    ensures { result ≡ untold.entry }
-{
-    Record {
-        service: 0,
-        destination: Address(0),
-        to: Point(255),
-        from: Point(255),
-        length: 0,
-        status: request::WAITING,
-        count: 0,
-        reference: 0,
-        limit: 0,
-        asks: false,
-    }
+    let q = acts::queue_of(p, s.core);
+    refusal(&s, q, request::SIZE, row.len(), area.len())?;
+    let t = rows::submit(s.core.ts, q, limited(s.core, r), x, row, area)?;
+    Ok(accepting(s, p, t))
 }
 
 // What collect answers, by what it decided.
-pub fn returning(s: State, p: Priority, c: Collected) -> HandedBack
-    ensures { result ≡ hand_of p c s }
+#[tactic(auto, unfolding(queue::specs::Queue::collected_of, state::specs::Told::hand_of, state::specs::Told::handed_back_by, state::specs::World::state_with))]
+pub fn returning(s: State, p: Priority, h: Handed) -> HandedBack
+    ensures { handed_back_by s (Ok result) ≡ hand_of p (collected_of (Ok h)) s }
 {
-    let core = s.core;
-    let mut state = s;
-    match c {
-        Collected::Refused(n) => HandedBack {
-            refused: n,
-            state,
-            place: 0,
-            entry: no_record(),
+    HandedBack {
+        state: State {
+            core: acts::with_queue(p, h.queue, s.core),
+            ..s
         },
-        Collected::Handed {
-            place,
-            entry,
-            queue,
-        } => {
-            state.core = acts::with_queue(p, queue, core);
-            HandedBack {
-                refused: 0,
-                state,
-                place,
-                entry,
-            }
-        }
+        place: h.place,
+        entry: h.entry,
     }
 }
 
 // Hands back the oldest confirmed record of a queue, whose row and data area are lent, and frees its place.
-pub fn collect(s: State, p: Priority, row: &[u8], area: &[u8]) -> HandedBack
-    ensures { result ≡ handed_back_of (calls_collect p (lent p s (rows row.now area.now))) }
+pub fn collect(s: State, p: Priority, row: &[u8], area: &[u8]) -> Result<HandedBack, Refusal>
+    ensures { handed_back_by s result ≡ handed_back_of (calls_collect p (lent p s (rows row.now area.now))) }
 {
-    let core = s.core;
-    let masters = s.masters.0;
-    let started = s.started.0;
-    let kept = s.memory.kept;
-    let c = handing(p, core, &masters, &started, kept, row, area);
-    returning(s, p, c)
+    let q = acts::queue_of(p, s.core);
+    refusal(&s, q, request::SIZE, row.len(), area.len())?;
+    let h = rows::collect(q, row)?;
+    Ok(returning(s, p, h))
 }

@@ -9,8 +9,8 @@ use Rattle.records.specs.Records.{row_of}
 use Rattle.records.proofs.Laws.{octets-tell}
 use Rattle.state.specs.declared.Priority.{Priority}
 use Rattle.state.specs.declared.State.{State}
-use Rattle.state.specs.declared.Accepted.{Accepted}
-use Rattle.state.specs.declared.HandedBack.{HandedBack}
+use Rattle.state.specs.Told.{Accepted}
+use Rattle.state.specs.Told.{HandedBack}
 use Rattle.state.specs.World.{rows}
 use Rattle.state.specs.Calls.{submit, collect}
 use Rattle.state.specs.Told.{lent, submitted_of, handed_back_of}

@@ -2,26 +2,27 @@
 ghost use Rattle.std.specs.Prelude.{◌≡◌, ◌<◌, ◌≤◌};
 ghost use Rattle.queue.specs.Queue.{PLACES};
 ghost use Rattle.state.specs.World.{state_of};
-ghost use Rattle.state.specs.Calls.{Unstarted, no_rows, empty_queue, fresh_core, fresh_world, start as calls_start};
-ghost use Rattle.state.specs.Told.{started_of, blank, blank_settings};
+ghost use Rattle.state.specs.Calls.{no_rows, empty_queue, fresh_core, fresh_world, start as calls_start};
+ghost use Rattle.state.specs.Told.{blank, renewed_by, started_of};
 
 use clock::BitTime;
 use frame::Address;
 use queue::Queue;
+use refusal::Refusal;
 use ring::Masters;
-use state::{Core, Doing, Hold, Kept, Marks, Memory, Phase, Points, Priority, Renewed, State};
-use times::{Count, Settings};
+use state::{Core, Doing, Hold, Kept, Marks, Memory, Phase, Points, Priority, State};
+use times::Settings;
 
 // The core of a station that nothing has happened to.
-fn fresh_core(settings: Settings, ts: Address, masters: Masters, high: Queue, low: Queue) -> Core
+#[tactic(auto, unfolding(state::specs::Calls::fresh_core, state::specs::Calls::first_hold))]
+fn fresh_core(settings: Settings, ts: Address, masters: &[u8; 127], high: Queue, low: Queue) -> Core
     requires { ts.0 < 127 }
-    ensures { result ≡ fresh_core settings ts.0 masters.0 high low }
+    ensures { result ≡ fresh_core settings ts.0 masters.now high low }
 {
-    let set = masters.0;
     Core {
         settings,
         ts,
-        ps: ring::previous(&set, ts),
+        ps: ring::previous(masters, ts),
         stranger: Address(state::NOBODY),
         doing: Doing {
             phase: Phase::Idle,
@@ -40,6 +41,7 @@ fn fresh_core(settings: Settings, ts: Address, masters: Masters, high: Queue, lo
 }
 
 // The state of a station that starts afresh, with what its memory's octets are.
+#[tactic(auto, unfolding(state::specs::Calls::fresh_world, state::specs::Calls::forgotten, state::specs::World::state_of))]
 pub fn fresh(
     settings: Settings,
     ts: Address,
@@ -56,7 +58,7 @@ pub fn fresh(
         no_rows) }
 {
     State {
-        core: fresh_core(settings, ts, masters, high, low),
+        core: fresh_core(settings, ts, &masters.0, high, low),
         masters,
         started: masters,
         marks: Marks([2; 127]),
@@ -73,6 +75,7 @@ pub fn fresh(
 }
 
 // An empty queue of so many places.
+#[tactic(auto, unfolding(state::specs::Calls::empty_queue))]
 fn empty(places: usize) -> Queue
     requires { places ≤ PLACES }
     ensures { result ≡ empty_queue places }
@@ -85,48 +88,8 @@ fn empty(places: usize) -> Queue
     }
 }
 
-// Settings out of rule.
-fn blank_settings() -> Settings
-    ensures { result ≡ blank_settings }
-{
-    Settings {
-        tset: BitTime(0),
-        tqui: BitTime(0),
-        mintsdr: BitTime(0),
-        maxtsdr: BitTime(0),
-        ttd: BitTime(0),
-        ttr: BitTime(0),
-        retries: Count(0),
-        tsdi: BitTime(0),
-    }
-}
-
-// The state that a refused start leaves, which no call accepts.
-fn blank_state() -> State
-    ensures { result ≡ blank }
-{
-    fresh(
-        blank_settings(),
-        Address(0),
-        Masters([0; 127]),
-        Points([0; 64]),
-        empty(0),
-        empty(0),
-        [0; 255],
-    )
-}
-
-// What start answers when it refuses.
-fn unstarted(n: u8) -> Renewed
-    ensures { result ≡ started_of (Unstarted n) }
-{
-    Renewed {
-        refused: n,
-        state: blank_state(),
-    }
-}
-
 // Starts a station with queues of so many places.
+#[tactic(auto, using(crate::proofs::starting::Started::start_facts), unfolding(choice::specs::Choice::pick, choice::specs::Choice::less, choice::specs::Choice::same, choice::specs::Choice::said, refusal::specs::Refusal::number, state::specs::Calls::start, state::specs::Told::renewed_by, state::specs::Told::started_of))]
 pub fn start(
     settings: Settings,
     ts: Address,
@@ -134,35 +97,22 @@ pub fn start(
     points: Points,
     high: usize,
     low: usize,
-) -> Renewed
-    ensures { result ≡ started_of (calls_start settings ts.0 masters.0 points.0 high low) }
+) -> Result<State, Refusal>
+    ensures { renewed_by blank result ≡ started_of (calls_start settings ts.0 masters.0 points.0 high low) }
 {
-    let set = masters.0;
-    if refusals::unstartable(settings, ts, &set) {
-        return unstarted(20);
+    if refusals::unstartable(settings, ts, &masters.0) {
+        return Err(Refusal::Setting);
     }
-    if high == 0 {
-        return unstarted(21);
+    if !matches!(high, 1..=queue::PLACES) || !matches!(low, 1..=queue::PLACES) {
+        return Err(Refusal::Row);
     }
-    if queue::PLACES < high {
-        return unstarted(21);
-    }
-    if low == 0 {
-        return unstarted(21);
-    }
-    if queue::PLACES < low {
-        return unstarted(21);
-    }
-    Renewed {
-        refused: 0,
-        state: fresh(
-            settings,
-            ts,
-            masters,
-            points,
-            empty(high),
-            empty(low),
-            [0; 255],
-        ),
-    }
+    Ok(fresh(
+        settings,
+        ts,
+        masters,
+        points,
+        empty(high),
+        empty(low),
+        [0; 255],
+    ))
 }

@@ -6,16 +6,16 @@ use mathlib.Core.List.{List}
 use mathlib.Core.Path.{◌≡◌, refl, ap}
 use Rattle.choice.specs.Choice.{pick}
 use Rattle.request.specs.declared.Record.{Record}
-use Rattle.queue.specs.declared.Taken.{Taken}
-use Rattle.queue.specs.declared.Collected.{Collected}
-use Rattle.queue.specs.declared.Collected.TheVariants.{Refused, Handed}
+use Rattle.queue.specs.Queue.{Taken}
+use Rattle.queue.specs.Queue.{Collected}
+use Rattle.queue.specs.Queue.{Refused, Handed}
 use Rattle.rows.specs.Rows.{Left, left}
 use Rattle.state.specs.declared.Priority.{Priority}
 use Rattle.state.specs.declared.Priority.TheVariants.{High, Low}
 use Rattle.state.specs.declared.Core.{Core}
 use Rattle.state.specs.declared.State.{State}
-use Rattle.state.specs.declared.Accepted.{Accepted}
-use Rattle.state.specs.declared.HandedBack.{HandedBack}
+use Rattle.state.specs.Told.{Accepted}
+use Rattle.state.specs.Told.{HandedBack}
 use Rattle.state.specs.World.{Rows, World, Event, Done, Called, rows, rows_of, done, with_core, with_rows, with_site}
 use Rattle.state.specs.World.{world_of}
 use Rattle.state.specs.Calls.{called, refuse, submit, collect}

@@ -17,9 +17,9 @@ use Rattle.state.specs.declared.Priority.{Priority}
 use Rattle.state.specs.declared.Priority.TheVariants.{High, Low}
 use Rattle.state.specs.declared.Core.{Core}
 use Rattle.state.specs.declared.Kept.{Kept}
-use Rattle.state.specs.declared.Accepted.{Accepted}
-use Rattle.state.specs.declared.HandedBack.{HandedBack}
-use Rattle.state.specs.declared.Renewed.{Renewed}
+use Rattle.state.specs.Told.{Accepted}
+use Rattle.state.specs.Told.{HandedBack}
+use Rattle.state.specs.Told.{Renewed}
 use Rattle.state.specs.World.{Rows, World, Called, rows, world_of, state_of, rows_of}
 use Rattle.state.specs.Told.{telling, standing, lent, accepted_of, handed_back_of, heard_of, reset_of}
 use Rattle.state.specs.Calls.{Station}

@@ -9,7 +9,10 @@ use Rattle.choice.specs.Choice.{pick}
 use Rattle.choice.proofs.Rules.{if-same, unless-same}
 use Rattle.times.specs.declared.Settings.{Settings}
 use Rattle.state.specs.declared.State.{State}
-use Rattle.state.specs.declared.Renewed.{Renewed}
+use Rattle.std.specs.Prelude.{Ok, Err}
+use Rattle.refusal.specs.declared.Refusal.{Refusal}
+use Rattle.refusal.proofs.Numbers.{above_zero}
+use Rattle.state.specs.Told.{Renewed, blank, renewed_by}
 use Rattle.state.specs.World.{Rows, Called, state_of, world_of}
 use Rattle.state.specs.Calls.{Unstarted, Station, refuse, fresh_world, forgotten}
 use Rattle.state.specs.Calls.{resetting as calls_resetting, start, reset}
@@ -75,6 +78,25 @@ module _ (s : Settings) (ts : ℕ) (masters points : List ℕ) (high low : ℕ) 
   unfolding starting
   start-refused started marks octets e f h = rw (← e, f) (unless-same _ h refl)
 
+  -- the same of what start answers
+  pub start-done : (x : State) {r : FlatRenewed} (started marks octets : List ℕ)
+      → renewed_by blank (Ok x) ≡ started_of (start s ts masters points high low)
+      → r ≡ flat_started (renewed_by blank (Ok x))
+      → filled r masters x.started.0 x.marks.0 points x.memory.octets
+      ≡ starting (started_of (start s ts masters points high low)) masters started marks points octets
+  unfolding renewed_by
+  start-done x started marks octets e f = start-filled started marks octets e f refl
+
+  pub start-declined : (k : Refusal) {r : FlatRenewed} (started marks octets : List ℕ)
+      → renewed_by blank (Err k) ≡ started_of (start s ts masters points high low)
+      → r ≡ flat_started (renewed_by blank (Err k))
+      → filled r masters started marks points octets
+      ≡ starting (started_of (start s ts masters points high low)) masters started marks points octets
+  unfolding renewed_by
+  start-declined k started marks octets e f =
+      let p = above_zero k in
+      start-refused started marks octets e f (λ h. omega (arith, p, h))
+
 -- ---- reset
 -- what it leaves of a state
 record Kept (s : State) (d : Called) : Type 0 where
@@ -123,3 +145,20 @@ reset-held n s high low e f =
     (ap (λ (l : Leaves Renewed). l.answer.state.points.0) e ∙ k.points)
     (ap (λ (l : Leaves Renewed). l.answer.state.memory.octets) e ∙ k.octets)
     ∙ ap (resetting n) e)
+
+-- the same of what reset answers
+module _ (n : Numbers) (s : State) (high low : Rows) {r : FlatRenewed} {high' low' : Rows} where
+  pub reset-done : (x : State) → leaves (renewed_by s (Ok x)) high' low' [] ≡ reset_of (reset (world_of s high low))
+      → ((y : State) → r ≡ flat_renewed n (renewed_by y (Ok x)))
+      → held r x.masters.0 s.started.0 x.marks.0 s.points.0 s.memory.octets high' low' []
+      ≡ resetting n (reset_of (reset (world_of s high low)))
+  unfolding renewed_by
+  reset-done x e f = reset-held n s high low e (f s)
+
+  pub reset-declined : (k : Refusal)
+      → leaves (renewed_by s (Err k)) high' low' [] ≡ reset_of (reset (world_of s high low))
+      → ((y : State) → r ≡ flat_renewed n (renewed_by y (Err k)))
+      → held r s.masters.0 s.started.0 s.marks.0 s.points.0 s.memory.octets high' low' []
+      ≡ resetting n (reset_of (reset (world_of s high low)))
+  unfolding renewed_by
+  reset-declined k e f = reset-held n s high low e (f s)

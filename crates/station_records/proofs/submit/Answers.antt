@@ -1,17 +1,37 @@
--- `station_records::submit` meets its contract: what `deciding` says of every row of so many octets is said of the
--- octets that the row of records stands for.
-use mathlib.Core.Path.{ap, ◌∙◌}
-use Rattle.rows.specs.Rows.{left}
+-- `station_records::submit` meets its contract.
+use mathlib.Core.Path.{refl}
+use Rattle.std.proofs.lemmas.Result.{err_from_is_err_and}
+use Rattle.refusal.specs.Refusal.{refused}
 use Rattle.records.specs.Records.{row_of}
-use Rattle.records.proofs.Laws.{length-row}
-use Rattle.state.specs.declared.Accepted.{Accepted}
-use Rattle.station_queues.proofs.Lent.{submit-by-decision}
+use Rattle.station_queues.proofs.Lent.{ready, submit-declined, submit-undone, submit-done}
 use Rattle.station_records.proofs.submit.Goals as goal
 
+pub returns-in_err-refusal : goal.returns-in_err-refusal
+unfolding refused
+returns-in_err-refusal c =
+    let e = err_from_is_err_and c.from_residual.result c.from_residual.ensures.1 in
+    submit-declined _ _ _ _ _ _ c.queue_of-q.ensures c.in_err-refusal.ensures c.in_err-refusal.field-0.0
+    (rw e.2 at e.1) refl
+
+pub limited-own-requires : goal.limited-own-requires
+unfolding refused
+limited-own-requires c = (ready c.args.s c.args.p (row_of c.args.row.now) c.args.area.now c.queue_of-q.ensures c.in_ok-refusal.ensures refl).limit
+
+pub submit-requires : goal.submit-requires
+unfolding refused
+submit-requires c =
+    let k = ready c.args.s c.args.p (row_of c.args.row.now) c.args.area.now c.queue_of-q.ensures c.in_ok-refusal.ensures refl in
+    rw c.queue_of-q.ensures (k.ruled, k.lent)
+
+pub returns-in_err-t : goal.returns-in_err-t
+unfolding refused
+returns-in_err-t c =
+    let e = err_from_is_err_and c.from_residual-in_err-t.result c.from_residual-in_err-t.ensures.1 in
+    submit-undone _ _ _ _ _ _ c.queue_of-q.ensures c.in_ok-refusal.ensures refl c.in_err-t.field-0.0 (rw e.2 at e.1)
+    (rw c.limited-own.ensures at c.in_err-t.ensures)
+
 pub returns : goal.returns
+unfolding refused
 returns c =
-    let octets = row_of c.args.row.now in
-    ap (λ (a : Accepted). left a (row_of c.store-stored.new.row) c.deciding-t.new.area) c.accepting.ensures
-    ∙ submit-by-decision c.args.s c.args.p c.args.r c.args.x.now octets c.args.area.now
-    (rw (c.store-stored.ensures.0, c.store-stored.ensures.1)
-    (c.deciding-t.ensures.all octets (length-row c.args.row.now)))
+    submit-done _ _ _ _ _ _ c.queue_of-q.ensures c.in_ok-refusal.ensures refl _ _ c.accepting.ensures
+    (rw c.limited-own.ensures at c.in_ok-t.ensures)

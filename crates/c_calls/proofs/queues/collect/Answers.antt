@@ -7,5 +7,5 @@ use Rattle.c_calls.proofs.queues.collect.Goals as goal
 pub returns : goal.returns
 unfolding state_in
 returns c =
-    rw c.collected.ensures
+    rw (c.collected.ensures c.state_in-s.result)
     (collect-lodged _ _ _ _ _ (rw (← c.state_in-s.ensures) c.collect.ensures))

@@ -1,16 +1,16 @@
 -- `c_calls::queues::start` meets its contract: a refused start leaves the arrays, else they are filled as the state has
 -- them.
-use Rattle.c_core.proofs.handover.Renewing.{start-filled, start-refused}
+use Rattle.c_core.proofs.handover.Renewing.{start-done, start-declined}
 use Rattle.c_calls.proofs.queues.start.Goals as goal
-
-pub returns-then-a-ne0 : goal.returns-then-a-ne0
-returns-then-a-ne0 c =
-    start-refused _ _ _ _ _ _ _ _ _ (rw (← c.settings_in-s.ensures) c.start-a.ensures)
-    c.started.ensures
-    c.if-a-ne0.true
+use Rattle.c_calls.proofs.queues.start.Goals.{in-Ok, in_default}
 
 pub returns : goal.returns
 returns c =
-    start-filled _ _ _ _ _ _ _ _ _ (rw (← c.settings_in-s.ensures) c.start-a.ensures)
-    c.started-2.ensures
-    c.if-a-ne0.false
+    elim c.match-a.branch [
+      | in-Ok w ↦ rw (w.started-is, w.marks-is, w.memory-is)
+          (rw (w.copy_from_slice.ensures.after, w.copy_from_slice-in-Ok.ensures.after, w.copy_from_slice-in-Ok-2.ensures.after)
+          (start-done _ _ _ _ _ _ w.in-Ok.s _ _ _ (rw (← c.from.ensures) w.in-Ok.ensures) (rw w.a-is at c.started.ensures)))
+      | in_default w ↦ rw (w.started-is, w.marks-is, w.memory-is)
+          (start-declined _ _ _ _ _ _ w.in_default.field-0 _ _ _ (rw (← c.from.ensures) w.in_default.ensures)
+          (rw (w.a-is, w.in_default.is) at c.started.ensures))
+    ]

@@ -7,5 +7,5 @@ use Rattle.c_calls.proofs.queues.submit.Goals as goal
 pub returns : goal.returns
 unfolding state_in
 returns c =
-    rw c.accepted.ensures
+    rw (c.accepted.ensures c.state_in-s.result)
     (submit-lodged _ _ _ _ _ _ _ (rw (← c.state_in-s.ensures) c.submit.ensures))

@@ -2,9 +2,6 @@
 use Rattle.c_core.proofs.handover.Standing.{stands-held}
 use Rattle.c_calls.proofs.turns.hear.Goals as goal
 
-pub returns : goal.returns
-returns c =
-    stands-held _
-    (rw (← c.core_in-c.ensures, ← c.kept_in-k.ensures, ← c.room_of-some.ensures)
-    c.frame-a.ensures)
-    c.answer.ensures
+pub returns-clause-held : goal.returns-clause-held
+returns-clause-held c =
+    stands-held _ (rw (← c.from.ensures, ← c.from-2.ensures, ← c.room_of.ensures) c.frame-a.ensures.stands) (c.answer.ensures c.from.result c.from-2.result)

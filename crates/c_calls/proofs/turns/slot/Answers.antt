@@ -2,8 +2,6 @@
 use Rattle.c_core.proofs.handover.Standing.{stands-held}
 use Rattle.c_calls.proofs.turns.slot.Goals as goal
 
-pub returns : goal.returns
-returns c =
-    stands-held _
-    (rw (← c.core_in-c.ensures, ← c.kept_in-k.ensures) (c.slot-a.ensures.told _ _))
-    c.answer.ensures
+pub returns-clause-held : goal.returns-clause-held
+returns-clause-held c =
+    stands-held _ (rw (← c.from.ensures, ← c.from-2.ensures) (c.slot-a.ensures.acts.told _ _)) (c.answer.ensures c.from.result c.from-2.result)

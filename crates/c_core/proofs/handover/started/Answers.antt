@@ -1,7 +1,8 @@
--- `c_core::handover::started` meets its contract: number by number.
-use Rattle.c_core.specs.Handover.{flat_started}
+-- `c_core::handover::started` meets its contract.
+use mathlib.Core.Path.{◌∙◌}
+use Rattle.state.specs.Told.{blank}
+use Rattle.c_core.proofs.handover.Standing.{started-renewed}
 use Rattle.c_core.proofs.handover.started.Goals as goal
 
 pub returns : goal.returns
-unfolding flat_started
-returns c = cc
+returns c = c.renewed.ensures blank ∙ started-renewed _ _ c.blank.ensures
