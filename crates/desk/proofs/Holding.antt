@@ -1,27 +1,31 @@
 -- The rows in their arrays, a start's two ends, and what a call left as what the desk holds. Assumes nothing.
-use Prim.Native.Nat.{ℕ, ◌+◌, ◌*◌, ◌<◌, ◌≤◌}
+use Prim.Native.Nat.{ℕ, ◌*◌, ◌<◌, ◌≤◌}
 use mathlib.Core.Bool.{Bool, true, false}
-use mathlib.Core.List.{List, [], ◌∷◌}
-use mathlib.Core.Path.{◌≡◌, refl, sym, ap, ◌∙◌}
+use mathlib.Core.List.{List, []}
+use mathlib.Core.Path.{◌≡◌, refl, sym, ap, subst, ◌∙◌}
 use native.Mathlib.Omega.{arith}
 use native.Mathlib.Nat.{zero-add}
-use lib.ListN.{length, take, set, replicate, length-replicate, take-append-drop, replicate-append-replicate}
+use lib.ListN.{length, take, replicate, length-replicate, take-append-drop}
 use lib.Seq.{length-take-le, take_at}
 use borrow.Rule.Slice.PartMut.{put_mid}
 use Rattle.choice.specs.Choice.{pick}
 use Rattle.choice.proofs.Rules.{pick_true, pick-false, false-less}
 use Rattle.laid.specs.Laid.{laid, Lays}
-use Rattle.laid.proofs.Laws.{laid_nil, laid-start, laid-sets, laid-behind, length-laid}
+use Rattle.laid.proofs.Laws.{laid_nil, laid-start}
 use Rattle.request.specs.Record.{SIZE}
 use Rattle.queue.specs.Queue.{AREA}
 use Rattle.typed_call.specs.declared.script.Call.{Call}
 use Rattle.typed_call.specs.Operands.{settings_of, ts_of, masters_of, points_of, high_of, low_of}
 use Rattle.times.specs.declared.Settings.{Settings}
 use Rattle.state.specs.declared.State.{State}
-use Rattle.state.specs.declared.Renewed.{Renewed}
+use Rattle.state.specs.Told.{Renewed}
 use Rattle.state.specs.World.{Rows, rows}
 use Rattle.state.specs.Calls.{Started, Unstarted, Station, start}
-use Rattle.state.specs.Told.{Leaves, leaves, started_of}
+use Rattle.std.specs.Prelude.{Ok, Err}
+use Rattle.refusal.specs.declared.Refusal.{Refusal}
+use Rattle.refusal.specs.Refusal.{number}
+use Rattle.refusal.proofs.Numbers.{above_zero}
+use Rattle.state.specs.Told.{Leaves, leaves, started_of, renewed_by, blank}
 use Rattle.printed_lines.specs.declared.saying.Played.{Played}
 use Rattle.printed_lines.specs.Saying.{unknown_line, plain_line, Plays, printing}
 use Rattle.printed_lines.proofs.saying.Lines.{laid-near}
@@ -39,17 +43,9 @@ row_laid n l m e = rw (laid-start l m, e)
 row_kept : (n : ℕ) (l : List ℕ) → n ≤ length l → l ≡ laid l 0 (take n l)
 row_kept n l h = rw (laid-start l (take n l), length-take-le n l h) (sym (take-append-drop n l))
 
--- zeros, and one more of them
+-- zeros
 abbrev pub zeros : ℕ → List ℕ
 zeros n = replicate n 0
-
-pub zeros-more : (l : List ℕ) (i : ℕ) → i < length l → set (laid l 0 (zeros i)) i 0 ≡ laid l 0 (zeros (i + 1))
-zeros-more l i h =
-    let n : length (zeros i) ≡ i = length-replicate i 0 in
-    let m : length (laid l 0 (zeros i)) ≡ length l = length-laid l 0 (zeros i) (omega (arith, n)) in
-    laid-sets (laid l 0 (zeros i)) i (0 ∷ []) (omega (arith, m))
-    ∙ laid-behind l _ 0 i (zeros i) (0 ∷ []) (omega (arith, n)) (omega (arith, n)) refl
-    ∙ ap (laid l 0) (replicate-append-replicate i 1 0)
 
 -- ---- a start gives a number above 0, or a station with rows of at most 64 places
 pub data Begins (t : Started) (high low : ℕ) : Type 0 where
@@ -96,7 +92,7 @@ pub goes_on : (c : Call) (line : List ℕ) (h : Held) (high harea low larea text
     → length text' ≡ length text
     → Answers (answer_other c line (desk_of h high harea low larea)) high harea low larea text
     (record {
-      held = record { begun = true; high = h.high; low = h.low; state = p.state };
+      held = record { begun = h.begun; high = h.high; low = h.low; state = p.state };
       length = p.length;
     }) (put_mid 0 (SIZE * h.high) high u) (put_mid 0 (AREA * h.high) harea ua)
     (put_mid 0 (SIZE * h.low) low v) (put_mid 0 (AREA * h.low) larea va) text'
@@ -158,10 +154,6 @@ unfolding started_of
 few-by t (refuses k e p) r = absurd (omega (arith, p, rw e at r))
 few-by t (gives s e u v) r = (u, v)
 
-pub begun-few : (line : List ℕ) {r : Renewed} {a b : ℕ} → r ≡ started_of (start_by line) → r.refused ≡ 0
-    → a ≡ high_of line → b ≡ low_of line → (a ≤ 64) × (b ≤ 64)
-begun-few line e r ea eb = rw (ea, eb) (few-by (start_by line) (start-begins line) (rw e at r))
-
 refused-by : (t : Started) (a b : ℕ) (h : Held) (high harea low larea text : List ℕ) {n : ℕ} {text' : List ℕ}
     → Begins t a b → Arrays high harea low larea text → Few h
     → ((started_of t).refused ≡ 0 → ⊥) → Lays text 0 (plain_line (started_of t).refused) 8192 n text'
@@ -201,24 +193,47 @@ given_by t a b h high harea low larea text (gives s e u v) r x =
       few = record { high = u; low = v };
     })
 
-pub begun-refused : (line : List ℕ) (h : Held) (high harea low larea text : List ℕ) {r : Renewed} {n : ℕ}
+few_in : (line : List ℕ) → (started_of (start_by line)).refused ≡ 0 → (high_of line ≤ 64) × (low_of line ≤ 64)
+few_in line e = few-by (start_by line) (start-begins line) e
+
+pub few_high : (line : List ℕ) (s : State) → renewed_by blank (Ok s) ≡ started_of (start_by line) → high_of line ≤ 64
+unfolding renewed_by
+few_high line s e = (few_in line (ap (λ (r : Renewed). r.refused) (sym e))).0
+
+pub few_low : (line : List ℕ) (s : State) → renewed_by blank (Ok s) ≡ started_of (start_by line) → low_of line ≤ 64
+unfolding renewed_by
+few_low line s e = (few_in line (ap (λ (r : Renewed). r.refused) (sym e))).1
+
+pub ruleset few_rows = (few_high, few_low)
+
+pub begun-refused : (line : List ℕ) (h : Held) (high harea low larea text : List ℕ) (r : Refusal) {n : ℕ}
     {text' : List ℕ}
-    → Arrays high harea low larea text → Few h → r ≡ started_of (start_by line)
-    → (r.refused ≡ 0 → ⊥) → Lays text 0 (plain_line r.refused) 8192 n text'
+    → Arrays high harea low larea text → Few h → renewed_by blank (Err r) ≡ started_of (start_by line)
+    → Lays text 0 (plain_line (renewed_by h.state (Err r)).refused) 8192 n text'
     → Answers (starting (start_by line) (high_of line) (low_of line) (desk_of h high harea low larea)) high harea low
     larea text (record { held = h; length = n }) high harea low larea text'
-begun-refused line h high harea low larea text w f e r x =
-    refused-by (start_by line) _ _ h high harea low larea text (start-begins line) w f (rw e at r) (rw e at x)
+unfolding renewed_by
+begun-refused line h high harea low larea text r {n = n} {text' = text'} w f e x =
+    let k : number r ≡ (started_of (start_by line)).refused = ap (λ (y : Renewed). y.refused) e in
+    refused-by (start_by line) _ _ h high harea low larea text (start-begins line) w f
+    (λ (z : (started_of (start_by line)).refused ≡ 0). omega (arith, above_zero r, k, z))
+    (subst (λ (m : ℕ). Lays text 0 (plain_line m) 8192 n text') k x)
 
-pub begun-given : (line : List ℕ) (h : Held) (high harea low larea text : List ℕ) {r : Renewed} {n : ℕ}
+pub begun-given : (line : List ℕ) (h : Held) (high harea low larea text : List ℕ) (s : State) {n : ℕ}
     {text' : List ℕ}
-    → r ≡ started_of (start_by line) → r.refused ≡ 0 → Lays text 0 (plain_line r.refused) 8192 n text'
+    → renewed_by blank (Ok s) ≡ started_of (start_by line)
+    → Lays text 0 (plain_line (renewed_by h.state (Ok s)).refused) 8192 n text'
     → Answers (starting (start_by line) (high_of line) (low_of line) (desk_of h high harea low larea)) high harea low
     larea text
     (record {
-      held = record { begun = true; high = high_of line; low = low_of line; state = r.state };
+      held = record { begun = true; high = high_of line; low = low_of line; state = s };
       length = n;
     }) (laid high 0 (zeros (SIZE * high_of line))) (laid harea 0 (zeros (AREA * high_of line)))
     (laid low 0 (zeros (SIZE * low_of line))) (laid larea 0 (zeros (AREA * low_of line))) text'
-begun-given line h high harea low larea text e r x =
-    rw e (given_by (start_by line) _ _ h high harea low larea text (start-begins line) (rw e at r) (rw e at x))
+unfolding renewed_by
+begun-given line h high harea low larea text s {n = n} {text' = text'} e x =
+    let k : 0 ≡ (started_of (start_by line)).refused = ap (λ (y : Renewed). y.refused) e in
+    let t : s ≡ (started_of (start_by line)).state = ap (λ (y : Renewed). y.state) e in
+    rw t
+    (given_by (start_by line) _ _ h high harea low larea text (start-begins line) (sym k)
+    (subst (λ (m : ℕ). Lays text 0 (plain_line m) 8192 n text') k x))

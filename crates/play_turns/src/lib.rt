@@ -2,87 +2,69 @@
 #![tactic(auto)]
 
 ghost use Rattle.std.specs.Prelude.{◌≡◌, ◌≤◌, length, []};
-ghost use Rattle.state.specs.World.{rows, world_of};
+ghost use Rattle.state.specs.World.{world_of};
 ghost use Rattle.state.specs.Calls.{frame as calls_frame, sent as calls_sent, slot as calls_slot};
-ghost use Rattle.state.specs.Told.{leaves};
+ghost use Rattle.state.specs.Told.{leaves, high_in, low_in, SameRows};
 ghost use Rattle.printed_lines.specs.Saying.{played, answer_of};
 
+use answering::Caller;
 use clock::BitTime;
 use printed_lines::saying;
 use printed_lines::saying::Played;
-use state::State;
+use state::{Rows, State};
+
+// What a frame is given with: the clock, whether there is room for an indication, the two updates, and its octets.
+#[derive(Clone, Copy)]
+pub struct Given<'a> {
+    pub clock: BitTime,
+    pub room: bool,
+    pub first: &'a [u8],
+    pub second: &'a [u8],
+    pub octets: &'a [u8],
+}
 
 // A frame, with the room for an indication and the two updates.
-pub fn frame<'a>(
-    s: State,
-    clock: BitTime,
-    room: bool,
-    first: &'a [u8],
-    second: &'a [u8],
-    octets: &[u8],
-    high: &mut [u8],
-    harea: &mut [u8],
-    low: &mut [u8],
-    larea: &mut [u8],
-    text: &mut [u8],
-) -> Played
-    requires { (length octets.now ≤ 2048) × (8192 ≤ length text.old) }
-    ensures { leaves result (rows high.new harea.new)
-        (rows low.new larea.new) text.new
-        ≡ played (answer_of octets.now)
-        (calls_frame clock.0 room first.now second.now octets.now 255
-        (world_of s (rows high.old harea.old)
-        (rows low.old larea.old))) text.old }
+pub fn frame(s: State, given: Given, rows: &mut Rows, text: &mut [u8]) -> Played
+    requires { (length given.octets.now ≤ 2048) × (8192 ≤ length text.old) }
+    ensures played { leaves result (high_in rows.new) (low_in rows.new) text.new
+        ≡ played (answer_of given.entry.octets.now)
+        (calls_frame given.entry.clock.0 given.entry.room given.entry.first.now given.entry.second.now
+        given.entry.octets.now 255
+        (world_of s (high_in rows.old) (low_in rows.old))) text.old }
+    ensures same { SameRows rows.old rows.new }
 {
     let mut out = [0u8; 255];
-    let a = station::frame(
-        s, clock, room, first, second, octets, high, harea, low, larea, &mut out,
-    );
-    saying::told(a, &out, octets, text)
+    let caller = Caller {
+        room: given.room,
+        high: given.first,
+        low: given.second,
+    };
+    let a = station::frame(s, given.clock, caller, given.octets, rows, &mut out);
+    saying::told(s, a, &out, given.octets, text)
 }
 
 // What was to be sent went out.
-pub fn sent(
-    s: State,
-    clock: BitTime,
-    high: &mut [u8],
-    harea: &mut [u8],
-    low: &mut [u8],
-    larea: &mut [u8],
-    text: &mut [u8],
-) -> Played
+pub fn sent(s: State, clock: BitTime, r: &mut Rows, text: &mut [u8]) -> Played
     requires { 8192 ≤ length text.old }
-    ensures { leaves result (rows high.new harea.new)
-        (rows low.new larea.new) text.new
+    ensures played { leaves result (high_in r.new) (low_in r.new) text.new
         ≡ played (answer_of [])
-        (calls_sent clock.0 255
-        (world_of s (rows high.old harea.old)
-        (rows low.old larea.old))) text.old }
+        (calls_sent clock.0 255 (world_of s (high_in r.old) (low_in r.old))) text.old }
+    ensures same { SameRows r.old r.new }
 {
     let mut out = [0u8; 255];
-    let a = station::sent(s, clock, high, harea, low, larea, &mut out);
-    saying::told(a, &out, b"", text)
+    let a = station::sent(s, clock, r, &mut out);
+    saying::told(s, a, &out, b"", text)
 }
 
 // Slot expired.
-pub fn slot(
-    s: State,
-    clock: BitTime,
-    high: &mut [u8],
-    harea: &mut [u8],
-    low: &mut [u8],
-    larea: &mut [u8],
-    text: &mut [u8],
-) -> Played
+pub fn slot(s: State, clock: BitTime, r: &mut Rows, text: &mut [u8]) -> Played
     requires { 8192 ≤ length text.old }
-    ensures { leaves result (rows high.new harea.new)
-        (rows low.new larea.new) text.new
+    ensures played { leaves result (high_in r.new) (low_in r.new) text.new
         ≡ played (answer_of [])
-        (calls_slot clock.0 255
-        (world_of s (rows high.old harea.old)
-        (rows low.old larea.old))) text.old }
+        (calls_slot clock.0 255 (world_of s (high_in r.old) (low_in r.old))) text.old }
+    ensures same { SameRows r.old r.new }
 {
     let mut out = [0u8; 255];
-    let a = station::slot(s, clock, high, harea, low, larea, &mut out);
-    saying::told(a, &out, b"", text)
+    let a = station::slot(s, clock, r, &mut out);
+    saying::told(s, a, &out, b"", text)
 }

@@ -11,7 +11,7 @@ use Rattle.state.specs.declared.Phase.{Phase}
 use Rattle.state.specs.declared.Phase.TheVariants.{Idle, Awaited, Sdn, Check, ToSelf}
 use Rattle.state.specs.declared.Core.{Core}
 use Rattle.state.specs.declared.Indication.{Indication}
-use Rattle.state.specs.declared.Indication.TheVariants.{None, Shown}
+use Rattle.std.specs.Prelude.{Option, None, Some}
 use Rattle.typed.specs.Digits.{shown}
 use Rattle.typed.specs.Places.{w-high, w-low, w-sda, w-sdn, w-srd, w-status, w-ident, w-lsap}
 use Rattle.printed.specs.Numeral.{numeral}
@@ -175,17 +175,17 @@ unfoldable pub ends : ℕ → ℕ → ℕ → ℕ → List ℕ
 ends a b to from = spaced (numeral a) ++ (spaced (numeral b) ++ (spaced (point_word to) ++ spaced (point_word from)))
 
 -- "What is indicated: ` indicate SERVICE PRIORITY DA SA DSAP SSAP DATA`": nothing if nothing is
-unfoldable pub indicating : Indication → List ℕ → List ℕ
+unfoldable pub indicating : Option Indication → List ℕ → List ℕ
 indicating None octets = []
-indicating (Shown h p) octets =
+indicating (Some i) octets =
     w-indicate
-    ++ (service_word (fc h.control % 16)
-    ++ (spaced (priority_word (fc h.control % 16))
-    ++ (ends h.destination.0 h.source.0 (point_of h.to) (point_of h.from) ++ spaced
-    (shown (data_of octets p)))))
+    ++ (service_word (fc i.head.control % 16)
+    ++ (spaced (priority_word (fc i.head.control % 16))
+    ++ (ends i.head.destination.0 i.head.source.0 (point_of i.head.to) (point_of i.head.from) ++ spaced
+    (shown (data_of octets i.part)))))
 
 -- the line of frame, sent and slot: "`ok`, then what was sent, then what is indicated"
-unfoldable pub done_line : ℕ → List ℕ → Indication → List ℕ → List ℕ
+unfoldable pub done_line : ℕ → List ℕ → Option Indication → List ℕ → List ℕ
 done_line wait x i octets = w-ok ++ (sending wait x ++ (indicating i octets ++ newline))
 
 -- of order 6: "` ref N` at the end of its line unless N is 0"

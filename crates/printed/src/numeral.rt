@@ -1,4 +1,8 @@
 // A number as it is printed: its decimal digits, laid into a lent output. Assumes nothing.
+// Kept: `write!` promises its text only where it gives `Ok`, and no contract of `fmt::Write` says when that is; a
+// number is always laid, octet for octet (numeral), into fixed memory.
+#![tactic(auto, using(crate::proofs::numeral::Steps::digits), unfolding(crate::specs::Numeral::numeral))]
+
 ghost use Rattle.std.specs.Prelude.{◌+◌, ◌≤◌, length};
 ghost use Rattle.laid.specs.Laid.{Lays};
 ghost use Rattle.printed.specs.Numeral.{numeral, numeral_in};
@@ -12,11 +16,11 @@ fn put_in(most: usize, n: u32, out: &mut [u8], at: usize) -> usize
         return at;
     }
     if n < 10 {
-        out[at] = 48 + n as u8;
+        out[at] = b'0' + n as u8;
         return at + 1;
     }
     let last = put_in(most - 1, n / 10, out, at);
-    out[last] = 48 + (n % 10) as u8;
+    out[last] = b'0' + (n % 10) as u8;
     last + 1
 }
 
@@ -33,5 +37,5 @@ pub fn octet(n: u8, out: &mut [u8], at: usize) -> usize
     requires { at + 3 ≤ length out.old }
     ensures { Lays out.old at (numeral n) 3 result out.new }
 {
-    put_in(3, n as u32, out, at)
+    put_in(3, u32::from(n), out, at)
 }

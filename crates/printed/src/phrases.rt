@@ -1,78 +1,60 @@
 // What replay prints: the words, the parts of a line and the lines, laid into a lent output. Each step gives the place
 // behind what it laid; a word or number within a line is laid with a space before it. Assumes nothing.
-ghost use Rattle.std.specs.Prelude.{◌++◌, ◌≡◌, ◌+◌, ◌*◌, ◌≤◌, length, get_or};
+// Kept: `write!` promises its text only where it gives `Ok`, and no contract of `fmt::Write` says when that is; the
+// lines are always laid, octet for octet (refused_line, done_line), into fixed memory.
+#![tactic(auto, using(crate::proofs::phrases::Steps::laying))]
+
+ghost use Rattle.std.specs.Prelude.{◌≡◌, ◌+◌, ◌*◌, ◌≤◌, length, Some};
+ghost use Rattle.frame.specs.Access.{point_of};
 ghost use Rattle.frame.specs.Reading.{part};
 ghost use Rattle.laid.specs.Laid.{Lays};
 ghost use Rattle.typed.specs.Digits.{shown as digits_shown};
 ghost use Rattle.printed.specs.Numeral.{numeral};
-ghost use Rattle.printed.specs.Printed.{spaced, w-indicate, service_word, priority_word, point_word, refused_line};
+ghost use Rattle.printed.specs.Printed.{spaced, service_word, priority_word, point_word, refused_line};
 ghost use Rattle.printed.specs.Printed.{sending as printed_sending, ends as printed_ends};
 ghost use Rattle.printed.specs.Printed.{indicating as printed_indicating, done_line};
 
 use super::numeral;
-use frame::{Head, Part};
+use frame::Head;
 use state::Indication;
 use typed::digits;
 
-// A service's word: its length, then its octets.
-fn service_word(n: u8) -> [u8; 8]
-    ensures { (part result 1 (get_or result 0 0) ≡ service_word n) × (get_or result 0 0 ≤ 6) }
+// A service's word.
+#[tactic(auto, using(crate::proofs::phrases::Steps::laying), unfolding(crate::specs::Printed::service_word))]
+fn service_word(n: u8) -> &'static [u8]
+    ensures value { result.now ≡ service_word n }
+    ensures near { length result.now ≤ 6 }
 {
-    if n == 3 {
-        return [3, b's', b'd', b'a', 0, 0, 0, 0];
+    match n {
+        3 | 5 => b"sda",
+        4 | 6 => b"sdn",
+        12 | 13 => b"srd",
+        9 => b"status",
+        14 => b"ident",
+        15 => b"lsap",
+        _ => b"-",
     }
-    if n == 5 {
-        return [3, b's', b'd', b'a', 0, 0, 0, 0];
-    }
-    if n == 4 {
-        return [3, b's', b'd', b'n', 0, 0, 0, 0];
-    }
-    if n == 6 {
-        return [3, b's', b'd', b'n', 0, 0, 0, 0];
-    }
-    if n == 12 {
-        return [3, b's', b'r', b'd', 0, 0, 0, 0];
-    }
-    if n == 13 {
-        return [3, b's', b'r', b'd', 0, 0, 0, 0];
-    }
-    if n == 9 {
-        return [6, b's', b't', b'a', b't', b'u', b's', 0];
-    }
-    if n == 14 {
-        return [5, b'i', b'd', b'e', b'n', b't', 0, 0];
-    }
-    if n == 15 {
-        return [4, b'l', b's', b'a', b'p', 0, 0, 0];
-    }
-    [1, b'-', 0, 0, 0, 0, 0, 0]
 }
 
-// A priority's word: its length, then its octets.
-fn priority_word(n: u8) -> [u8; 8]
-    ensures { (part result 1 (get_or result 0 0) ≡ priority_word n) × (get_or result 0 0 ≤ 4) }
+// A priority's word.
+#[tactic(auto, using(crate::proofs::phrases::Steps::laying), unfolding(crate::specs::Printed::priority_word))]
+fn priority_word(n: u8) -> &'static [u8]
+    ensures value { result.now ≡ priority_word n }
+    ensures near { length result.now ≤ 4 }
 {
-    if n == 5 {
-        return [4, b'h', b'i', b'g', b'h', 0, 0, 0];
+    match n {
+        5 | 6 | 13 => b"high",
+        _ => b"low",
     }
-    if n == 6 {
-        return [4, b'h', b'i', b'g', b'h', 0, 0, 0];
-    }
-    if n == 13 {
-        return [4, b'h', b'i', b'g', b'h', 0, 0, 0];
-    }
-    [3, b'l', b'o', b'w', 0, 0, 0, 0]
 }
 
-// Lays a word that is given by its length and its octets.
-pub fn lay_word(w: [u8; 8], out: &mut [u8], at: usize) -> usize
-    requires { at + (1 + get_or w 0 0) ≤ length out.old }
-    ensures { Lays out.old at (spaced (part w 1 (get_or w 0 0))) (1 + get_or w 0 0) result
-        out.new }
+// Lays a word.
+pub fn lay_word(w: &[u8], out: &mut [u8], at: usize) -> usize
+    requires { at + (1 + length w.now) ≤ length out.old }
+    ensures { Lays out.old at (spaced w.now) (1 + length w.now) result out.new }
 {
-    let count = w[0] as usize;
     let next = laid::lay(b" ", out, at);
-    laid::lay(read::part(&w, 1, count), out, next)
+    laid::lay(w, out, next)
 }
 
 // Lays a service's word.
@@ -101,25 +83,29 @@ pub fn number(n: u8, out: &mut [u8], at: usize) -> usize
 }
 
 // Lays an access point.
+#[tactic(auto, using(crate::proofs::phrases::Steps::laying), unfolding(crate::specs::Printed::point_word))]
 pub fn point(n: u8, out: &mut [u8], at: usize) -> usize
     requires { at + 4 ≤ length out.old }
     ensures { Lays out.old at (spaced (point_word n)) 4 result out.new }
 {
     if n == 255 {
-        return laid::lay(b" -", out, at);
+        laid::lay(b" -", out, at)
+    } else {
+        number(n, out, at)
     }
-    number(n, out, at)
 }
 
-// Lays two addresses and their access points.
-fn ends(a: u8, b: u8, to: u8, from: u8, out: &mut [u8], at: usize) -> usize
+// Lays a head's two addresses and its access points.
+#[tactic(auto, using(crate::proofs::phrases::Steps::laying), unfolding(crate::specs::Printed::ends))]
+fn ends(h: Head, out: &mut [u8], at: usize) -> usize
     requires { at + 16 ≤ length out.old }
-    ensures { Lays out.old at (printed_ends a b to from) 16 result out.new }
+    ensures { Lays out.old at (printed_ends h.destination.0 h.source.0 (point_of h.to) (point_of h.from)) 16 result
+        out.new }
 {
-    let second = number(a, out, at);
-    let third = number(b, out, second);
-    let fourth = point(to, out, third);
-    point(from, out, fourth)
+    let second = number(h.destination.0, out, at);
+    let third = number(h.source.0, out, second);
+    let fourth = point(frame::point_of(h.to), out, third);
+    point(frame::point_of(h.from), out, fourth)
 }
 
 // Lays the octets of a part of a string.
@@ -133,6 +119,7 @@ pub fn octets(s: &[u8], start: usize, count: usize, out: &mut [u8], at: usize) -
 }
 
 // Lays the line of a refusal.
+#[tactic(auto, using(crate::proofs::phrases::Steps::laying), unfolding(crate::specs::Printed::refused_line))]
 pub fn refused(n: u8, out: &mut [u8], at: usize) -> usize
     requires { at + 19 ≤ length out.old }
     ensures { Lays out.old at (refused_line n) 19 result out.new }
@@ -143,12 +130,13 @@ pub fn refused(n: u8, out: &mut [u8], at: usize) -> usize
 }
 
 // Lays what was sent, if anything was.
+#[tactic(auto, using(crate::proofs::phrases::Steps::laying), unfolding(crate::specs::Printed::sending))]
 pub fn sending(wait: u32, x: &[u8], out: &mut [u8], at: usize) -> usize
     requires { at + (2 * length x.now + 18) ≤ length out.old }
     ensures { Lays out.old at (printed_sending wait x.now)
         (2 * length x.now + 18) result out.new }
 {
-    if x.len() == 0 {
+    if x.is_empty() {
         return at;
     }
     let second = laid::lay(b" send ", out, at);
@@ -157,78 +145,44 @@ pub fn sending(wait: u32, x: &[u8], out: &mut [u8], at: usize) -> usize
     digits::put_octets(x, out, fourth)
 }
 
-// Lays a request that is indicated, by the numbers of its fields and where its data lie.
-fn request(
-    code: u8,
-    a: u8,
-    b: u8,
-    to: u8,
-    from: u8,
-    s: &[u8],
-    start: usize,
-    count: usize,
-    out: &mut [u8],
-    at: usize,
-) -> usize
+// Lays a request that is indicated, with its data.
+#[tactic(auto, using(crate::proofs::phrases::Steps::laying), unfolding(crate::specs::Printed::indicating))]
+fn indicated(i: Indication, s: &[u8], out: &mut [u8], at: usize) -> usize
     requires { at + (2 * length s.now + 70) ≤ length out.old }
-    ensures { Lays out.old at
-        (w-indicate ++
-        (service_word code ++
-        (spaced (priority_word code) ++
-        (printed_ends a b to from ++ spaced (digits_shown (part s.now start count))))))
+    ensures { Lays out.old at (printed_indicating (Some i) s.now)
         (2 * length s.now + 70) result out.new }
 {
+    let code = control::fc(i.head.control) % 16;
     let second = laid::lay(b" indicate", out, at);
     let third = service(code, out, second);
     let fourth = priority(code, out, third);
-    let fifth = ends(a, b, to, from, out, fourth);
-    octets(s, start, count, out, fifth)
-}
-
-// Lays a request that is indicated.
-fn indicated(h: Head, p: Part, s: &[u8], out: &mut [u8], at: usize) -> usize
-    requires { at + (2 * length s.now + 70) ≤ length out.old }
-    ensures { Lays out.old at (printed_indicating (Indication.Shown h p) s.now)
-        (2 * length s.now + 70) result out.new }
-{
-    let destination = h.destination.0;
-    let source = h.source.0;
-    let there = h.to;
-    let here = h.from;
-    let control = h.control;
-    let start = p.start;
-    let count = p.count;
-    let code = control::fc(control) % 16;
-    let to = frame::point_of(there);
-    let from = frame::point_of(here);
-    request(
-        code,
-        destination,
-        source,
-        to,
-        from,
-        s,
-        start,
-        count,
-        out,
-        at,
-    )
+    let fifth = ends(i.head, out, fourth);
+    octets(s, i.part.start, i.part.count, out, fifth)
 }
 
 // Lays what is indicated, if anything is, with the data of a string.
-pub fn indicating(i: Indication, s: &[u8], out: &mut [u8], at: usize) -> usize
+#[tactic(auto, using(crate::proofs::phrases::Steps::laying), unfolding(crate::specs::Printed::indicating))]
+pub fn indicating(i: Option<Indication>, s: &[u8], out: &mut [u8], at: usize) -> usize
     requires { at + (2 * length s.now + 70) ≤ length out.old }
     ensures { Lays out.old at (printed_indicating i s.now)
         (2 * length s.now + 70) result out.new }
 {
     match i {
-        Indication::None => at,
-        Indication::Shown(h, p) => indicated(h, p, s, out, at),
+        None => at,
+        Some(i) => indicated(i, s, out, at),
     }
 }
 
 // Lays the line of frame, sent and slot.
-pub fn done(wait: u32, x: &[u8], i: Indication, s: &[u8], out: &mut [u8], at: usize) -> usize
+#[tactic(auto, using(crate::proofs::phrases::Steps::laying), unfolding(crate::specs::Printed::done_line))]
+pub fn done(
+    wait: u32,
+    x: &[u8],
+    i: Option<Indication>,
+    s: &[u8],
+    out: &mut [u8],
+    at: usize,
+) -> usize
     requires { at + (2 * length x.now + 2 * length s.now + 95) ≤ length out.old }
     ensures { Lays out.old at (done_line wait x.now i s.now)
         (2 * length x.now + 2 * length s.now + 95) result out.new }

@@ -1,5 +1,5 @@
 -- The replay script: the line of a call by what its caller is told, and all that a call leaves. Assumes nothing.
-use Rattle.std.specs.Prelude.{ℕ, List, ◌∷◌, ◌++◌, length}
+use Rattle.std.specs.Prelude.{ℕ, Option, List, ◌∷◌, ◌++◌, length}
 use Rattle.choice.specs.Choice.{pick, same}
 use Rattle.laid.specs.Laid.{laid}
 use Rattle.request.specs.declared.Record.{Record}
@@ -20,7 +20,7 @@ unfoldable pub plain_line : ℕ → List ℕ
 plain_line refused = pick (same refused 0) (w-ok ++ newline) (refused_line refused)
 
 -- the line of frame, sent and slot
-unfoldable pub answer_line : ℕ → ℕ → List ℕ → Indication → List ℕ → List ℕ
+unfoldable pub answer_line : ℕ → ℕ → List ℕ → Option Indication → List ℕ → List ℕ
 answer_line refused wait x i octets = pick (same refused 0) (done_line wait x i octets) (refused_line refused)
 
 -- the line of collect, whose data are those of the place in the queue's area

@@ -1,12 +1,18 @@
 // The line that replay prints for a call, by what its caller is told. The station is left to the crates above. Assumes
 // nothing.
+// Kept: `write!` promises its text only where it gives `Ok`, and no contract of `fmt::Write` says when that is; the
+// lines are always laid, octet for octet (plain_line, answer_line), into fixed memory.
+#![tactic(auto, using(printed::proofs::phrases::Steps::laying))]
+
 ghost use Rattle.std.specs.Prelude.{◌≤◌, length, ◌≡◌};
 ghost use Rattle.frame.specs.Reading.{part};
 ghost use Rattle.laid.specs.Laid.{Lays};
+ghost use Rattle.state.specs.Told.{answered_by, renewed_by};
 ghost use Rattle.printed_lines.specs.Saying.{unknown_line, plain_line, answer_line};
 
 use printed::phrases;
-use state::{Answer, Indication, State};
+use refusal::Refusal;
+use state::{Answer, State};
 
 // What a call leaves: the state, and the length of its line.
 #[derive(Drop)]
@@ -23,48 +29,51 @@ pub fn unknown(text: &mut [u8]) -> usize
     laid::lay(b"?\n", text, 0)
 }
 
-// Lays the line of start, submit and reset.
-pub fn plain(refused: u8, text: &mut [u8]) -> usize
+// Lays the line of what start, submit or reset answered in a state.
+#[tactic(auto, using(printed::proofs::phrases::Steps::laying), unfolding(choice::specs::Choice::pick, choice::specs::Choice::same, state::specs::Told::renewed_by, crate::specs::Saying::plain_line))]
+pub fn plain(s: State, a: Result<State, Refusal>, text: &mut [u8]) -> Played
     requires { 8192 ≤ length text.old }
-    ensures { Lays text.old 0 (plain_line refused) 8192 result text.new }
+    ensures state_value { result.state ≡ (renewed_by s a).state }
+    ensures lays { Lays text.old 0 (plain_line (renewed_by s a).refused) 8192 result.length text.new }
 {
-    if refused != 0 {
-        return phrases::refused(refused, text, 0);
+    match a {
+        Ok(state) => Played {
+            state,
+            length: laid::lay(b"ok\n", text, 0),
+        },
+        Err(r) => Played {
+            state: s,
+            length: phrases::refused(r.number(), text, 0),
+        },
     }
-    laid::lay(b"ok\n", text, 0)
 }
 
-// Lays the line of frame, sent and slot.
-fn answer(refused: u8, wait: u32, x: &[u8], i: Indication, octets: &[u8], text: &mut [u8]) -> usize
-    requires { (length x.now ≤ 255) × (length octets.now ≤ 2048) × (8192 ≤ length text.old) }
-    ensures { Lays text.old 0 (answer_line refused wait x.now i octets.now)
-        8192 result text.new }
-{
-    if refused != 0 {
-        return phrases::refused(refused, text, 0);
-    }
-    phrases::done(wait, x, i, octets, text, 0)
-}
-
-// Lays the line of what frame, sent or slot answered; what is to be sent stands at the start of the output.
-pub fn told(a: Answer, out: &[u8], octets: &[u8], text: &mut [u8]) -> Played
+// Lays the line of what frame, sent or slot answered in a state; what is to be sent stands at the start of the output.
+#[tactic(auto, using(printed::proofs::phrases::Steps::laying), unfolding(choice::specs::Choice::pick, choice::specs::Choice::same, state::specs::Told::answered_by, crate::specs::Saying::answer_line))]
+pub fn told(
+    s: State,
+    a: Result<Answer, Refusal>,
+    out: &[u8],
+    octets: &[u8],
+    text: &mut [u8],
+) -> Played
     requires { (length out.now ≤ 255) × (length octets.now ≤ 2048) × (8192 ≤ length text.old) }
-    ensures state_value { result.state ≡ a.state }
+    ensures state_value { result.state ≡ (answered_by s a).state }
     ensures lays { Lays text.old 0
-        (answer_line a.refused a.wait.0 (part out.now 0 a.length) a.indication
-        octets.now) 8192 result.length text.new }
+        (answer_line (answered_by s a).refused (answered_by s a).wait.0 (part out.now 0 (answered_by s a).length)
+        (answered_by s a).indication octets.now) 8192 result.length text.new }
 {
-    let state = a.state;
-    let wait = a.wait.0;
-    let n = a.length;
-    let indication = a.indication;
-    let length = answer(
-        a.refused,
-        wait,
-        read::part(out, 0, n),
-        indication,
-        octets,
-        text,
-    );
-    Played { state, length }
+    match a {
+        Ok(a) => {
+            let sent = read::part(out, 0, a.length);
+            Played {
+                state: a.state,
+                length: phrases::done(a.wait.0, sent, a.indication, octets, text, 0),
+            }
+        }
+        Err(refusal) => Played {
+            state: s,
+            length: phrases::refused(refusal.number(), text, 0),
+        },
+    }
 }

@@ -1,58 +1,46 @@
 // The lines of collect and of show, laid into a lent output. Each step gives the place behind what it laid.
 // Assumes nothing.
-ghost use Rattle.std.specs.Prelude.{true, ◌++◌, ◌≡◌, ◌+◌, ◌*◌, ◌≤◌, length, get_or};
+// Kept: `write!` promises its text only where it gives `Ok`, and no contract of `fmt::Write` says when that is; the
+// lines are always laid, octet for octet (collected_line, shown_line), into fixed memory.
+#![tactic(auto, using(printed::proofs::phrases::Steps::laying))]
+
+ghost use Rattle.std.specs.Prelude.{true, ◌++◌, ◌≡◌, ◌+◌, ◌*◌, ◌≤◌, length};
 ghost use Rattle.choice.specs.Choice.{pick};
 ghost use Rattle.frame.specs.Reading.{part};
 ghost use Rattle.laid.specs.Laid.{Lays};
 ghost use Rattle.typed.specs.Digits.{shown as digits_shown};
 ghost use Rattle.queue.specs.Queue.{AREA};
 ghost use Rattle.printed.specs.Numeral.{numeral};
-ghost use Rattle.printed.specs.Printed.{spaced, newline, comma, w-ok, service_word, status_word, phase_word, point_word};
+ghost use Rattle.printed.specs.Printed.{spaced, newline, comma, status_word, phase_word, point_word};
 ghost use Rattle.printed.specs.Printed.{referring, collected_line, joined as printed_joined, ns_of, shown_line};
+ghost use Rattle.printed.specs.Printed.{counts as printed_counts};
 
 use frame::Address;
 use printed::{numeral, phrases};
+use queue::Queue;
 use request::Record;
 use state::{Core, Phase};
 
-// A status's word: its length, then its octets.
-fn status_word(n: u8) -> [u8; 8]
-    ensures { (part result 1 (get_or result 0 0) ≡ status_word n) × (get_or result 0 0 ≤ 3) }
+// A status's word.
+#[tactic(auto, using(printed::proofs::phrases::Steps::laying), unfolding(printed::specs::Printed::status_word))]
+fn status_word(n: u8) -> &'static [u8]
+    ensures value { result.now ≡ status_word n }
+    ensures near { length result.now ≤ 3 }
 {
-    if n == 0 {
-        return [2, b'O', b'K', 0, 0, 0, 0, 0];
+    match n {
+        0 => b"OK",
+        1 => b"UE",
+        2 => b"RR",
+        3 => b"RS",
+        9 => b"NR",
+        8 => b"DL",
+        10 => b"DH",
+        12 => b"RDL",
+        13 => b"RDH",
+        16 => b"NA",
+        17 => b"DS",
+        _ => b"-",
     }
-    if n == 1 {
-        return [2, b'U', b'E', 0, 0, 0, 0, 0];
-    }
-    if n == 2 {
-        return [2, b'R', b'R', 0, 0, 0, 0, 0];
-    }
-    if n == 3 {
-        return [2, b'R', b'S', 0, 0, 0, 0, 0];
-    }
-    if n == 9 {
-        return [2, b'N', b'R', 0, 0, 0, 0, 0];
-    }
-    if n == 8 {
-        return [2, b'D', b'L', 0, 0, 0, 0, 0];
-    }
-    if n == 10 {
-        return [2, b'D', b'H', 0, 0, 0, 0, 0];
-    }
-    if n == 12 {
-        return [3, b'R', b'D', b'L', 0, 0, 0, 0];
-    }
-    if n == 13 {
-        return [3, b'R', b'D', b'H', 0, 0, 0, 0];
-    }
-    if n == 16 {
-        return [2, b'N', b'A', 0, 0, 0, 0, 0];
-    }
-    if n == 17 {
-        return [2, b'D', b'S', 0, 0, 0, 0, 0];
-    }
-    [1, b'-', 0, 0, 0, 0, 0, 0]
 }
 
 // Lays a status's word.
@@ -63,16 +51,18 @@ fn status(n: u8, out: &mut [u8], at: usize) -> usize
     phrases::lay_word(status_word(n), out, at)
 }
 
-// A phase's word: its length, then its octets.
-fn phase_word(p: Phase) -> [u8; 8]
-    ensures { (part result 1 (get_or result 0 0) ≡ phase_word p) × (get_or result 0 0 ≤ 7) }
+// A phase's word.
+#[tactic(auto, using(printed::proofs::phrases::Steps::laying), unfolding(printed::specs::Printed::phase_word))]
+fn phase_word(p: Phase) -> &'static [u8]
+    ensures value { result.now ≡ phase_word p }
+    ensures near { length result.now ≤ 7 }
 {
     match p {
-        Phase::Idle => [4, b'i', b'd', b'l', b'e', 0, 0, 0],
-        Phase::Awaited => [7, b'a', b'w', b'a', b'i', b't', b'e', b'd'],
-        Phase::Sdn => [3, b's', b'd', b'n', 0, 0, 0, 0],
-        Phase::Check => [5, b'c', b'h', b'e', b'c', b'k', 0, 0],
-        Phase::ToSelf => [4, b's', b'e', b'l', b'f', 0, 0, 0],
+        Phase::Idle => b"idle",
+        Phase::Awaited => b"awaited",
+        Phase::Sdn => b"sdn",
+        Phase::Check => b"check",
+        Phase::ToSelf => b"self",
     }
 }
 
@@ -85,6 +75,7 @@ fn phase(p: Phase, out: &mut [u8], at: usize) -> usize
 }
 
 // Lays a request's reference, unless that is 0, and the line's end.
+#[tactic(auto, using(printed::proofs::phrases::Steps::laying), unfolding(printed::specs::Printed::referring))]
 fn closing(reference: u32, out: &mut [u8], at: usize) -> usize
     requires { at + 16 ≤ length out.old }
     ensures { Lays out.old at (referring reference ++ newline) 16 result out.new }
@@ -98,94 +89,49 @@ fn closing(reference: u32, out: &mut [u8], at: usize) -> usize
 }
 
 // Lays how a request ended: its status, the count of its sendings, its data, its reference, and the line's end.
-fn ending(
-    state: u8,
-    count: u8,
-    place: u8,
-    size: u8,
-    reference: u32,
-    area: &[u8],
-    out: &mut [u8],
-    at: usize,
-) -> usize
+fn ending(place: u8, r: Record, area: &[u8], out: &mut [u8], at: usize) -> usize
     requires { at + 536 ≤ length out.old }
     ensures { Lays out.old at
-        (spaced (status_word state) ++
-        (spaced (numeral count) ++
-        (spaced (digits_shown (part area.now (AREA * place) size)) ++
-        (referring reference ++ newline)))) 536 result out.new }
+        (spaced (status_word r.status) ++
+        (spaced (numeral r.count) ++
+        (spaced (digits_shown (part area.now (AREA * place) r.length)) ++
+        (referring r.reference ++ newline)))) 536 result out.new }
 {
-    let second = status(state, out, at);
-    let third = phrases::number(count, out, second);
-    let start = queue::AREA * place as usize;
-    let fourth = phrases::octets(area, start, size as usize, out, third);
-    closing(reference, out, fourth)
+    let second = status(r.status, out, at);
+    let third = phrases::number(r.count, out, second);
+    let start = queue::AREA * usize::from(place);
+    let fourth = phrases::octets(area, start, usize::from(r.length), out, third);
+    closing(r.reference, out, fourth)
 }
 
-// Lays the line of collect, by the numbers of the record's fields.
-fn row(
-    place: u8,
-    kind: u8,
-    destination: u8,
-    to: u8,
-    from: u8,
-    state: u8,
-    count: u8,
-    size: u8,
-    reference: u32,
-    area: &[u8],
-    out: &mut [u8],
-    at: usize,
-) -> usize
-    requires { at + 600 ≤ length out.old }
+// Lays where a request went and how it ended.
+fn ended(place: u8, r: Record, area: &[u8], out: &mut [u8], at: usize) -> usize
+    requires { at + 548 ≤ length out.old }
     ensures { Lays out.old at
-        (w-ok ++
-        (spaced (numeral place) ++
-        (spaced (service_word kind) ++
-        (spaced (numeral destination) ++
-        (spaced (point_word to) ++
-        (spaced (point_word from) ++
-        (spaced (status_word state) ++
-        (spaced (numeral count) ++
-        (spaced (digits_shown (part area.now (AREA * place) size)) ++
-        (referring reference ++ newline)))))))))) 600 result out.new }
+        (spaced (numeral r.destination.0) ++
+        (spaced (point_word r.to.0) ++
+        (spaced (point_word r.from.0) ++
+        (spaced (status_word r.status) ++
+        (spaced (numeral r.count) ++
+        (spaced (digits_shown (part area.now (AREA * place) r.length)) ++
+        (referring r.reference ++ newline))))))) 548 result out.new }
 {
-    let second = laid::lay(b"ok", out, at);
-    let third = phrases::number(place, out, second);
-    let fourth = phrases::service(kind, out, third);
-    let fifth = phrases::number(destination, out, fourth);
-    let sixth = phrases::point(to, out, fifth);
-    let seventh = phrases::point(from, out, sixth);
-    ending(state, count, place, size, reference, area, out, seventh)
+    let second = phrases::number(r.destination.0, out, at);
+    let third = phrases::point(r.to.0, out, second);
+    let fourth = phrases::point(r.from.0, out, third);
+    ending(place, r, area, out, fourth)
 }
 
 // Lays the line of collect.
+#[tactic(auto, using(printed::proofs::phrases::Steps::laying), unfolding(printed::specs::Printed::collected_line))]
 pub fn collected(place: u8, r: Record, area: &[u8], out: &mut [u8], at: usize) -> usize
     requires { at + 600 ≤ length out.old }
     ensures { Lays out.old at (collected_line place r area.now) 600 result out.new }
 {
-    let kind = r.service;
-    let destination = r.destination.0;
-    let to = r.to.0;
-    let from = r.from.0;
-    let state = r.status;
-    let count = r.count;
-    let size = r.length;
-    let reference = r.reference;
-    row(
-        place,
-        kind,
-        destination,
-        to,
-        from,
-        state,
-        count,
-        size,
-        reference,
-        area,
-        out,
-        at,
-    )
+    let second = laid::lay(b"ok", out, at);
+    let third = phrases::number(place, out, second);
+    let fourth = phrases::service(r.service, out, third);
+    ended(place, r, area, out, fourth)
 }
 
 // Lays a master, the first of all without a comma.
@@ -193,14 +139,12 @@ fn entry(first: bool, a: u8, out: &mut [u8], at: usize) -> usize
     requires { at + 4 ≤ length out.old }
     ensures { Lays out.old at (pick first (numeral a) (comma ++ numeral a)) 4 result out.new }
 {
-    if first {
-        return numeral::octet(a, out, at);
-    }
-    let next = laid::lay(b",", out, at);
+    let next = if first { at } else { laid::lay(b",", out, at) };
     numeral::octet(a, out, next)
 }
 
 // Lays the masters, ascending.
+#[tactic(auto, using(crate::proofs::shown::Masters::walk))]
 fn joined(masters: &[u8; 127], out: &mut [u8], at: usize) -> usize
     requires { at + 508 ≤ length out.old }
     ensures { Lays out.old at (printed_joined true 127 0 masters.now) 508 result
@@ -208,112 +152,61 @@ fn joined(masters: &[u8; 127], out: &mut [u8], at: usize) -> usize
 {
     let mut w = at;
     let mut first = true;
-    let mut a: u8 = 0;
-    while a < 127 {
+    for a in 0..127 {
         if ring::member(masters, Address(a)) {
             w = entry(first, a, out, w);
             first = false;
         }
-        a += 1;
     }
     w
 }
 
 // NS of a station, its own address if that is none of a station.
+#[tactic(auto, unfolding(choice::specs::Choice::pick, choice::specs::Choice::less, printed::specs::Printed::ns_of))]
 fn ns_of(masters: &[u8; 127], ts: Address) -> u8
     ensures { result ≡ ns_of masters.now ts.0 }
 {
-    let own = ts.0;
-    if own < 127 {
-        return ring::next(masters, ts).0;
+    if ts.0 < 127 {
+        ring::next(masters, ts).0
+    } else {
+        ts.0
     }
-    own
 }
 
-// Lays the two counts of a queue.
-fn counts(a: u8, b: u8, out: &mut [u8], at: usize) -> usize
+// Lays the two counts of a queue, confirmed and then not.
+#[tactic(auto, using(printed::proofs::phrases::Steps::laying), unfolding(printed::specs::Printed::counts))]
+fn counts(q: Queue, out: &mut [u8], at: usize) -> usize
     requires { at + 8 ≤ length out.old }
-    ensures { Lays out.old at (spaced (numeral a) ++ spaced (numeral b)) 8 result out.new }
+    ensures { Lays out.old at (printed_counts q) 8 result out.new }
 {
-    let next = phrases::number(a, out, at);
-    phrases::number(b, out, next)
+    let next = phrases::number(q.confirmed, out, at);
+    phrases::number(q.unconfirmed, out, next)
 }
 
-// Lays the masters and the counts of both queues, confirmed and then not, and the line's end.
-fn listed(masters: &[u8; 127], a: u8, b: u8, c: u8, d: u8, out: &mut [u8], at: usize) -> usize
+// Lays the masters and the counts of both queues, and the line's end.
+fn listed(c: Core, masters: &[u8; 127], out: &mut [u8], at: usize) -> usize
     requires { at + 526 ≤ length out.old }
     ensures { Lays out.old at
-        (spaced (printed_joined true 127 0 masters.now) ++
-        ((spaced (numeral a) ++ spaced (numeral b)) ++ ((spaced (numeral c) ++ spaced (numeral d)) ++ newline)))
+        (spaced (printed_joined true 127 0 masters.now) ++ (printed_counts c.high ++ (printed_counts c.low ++ newline)))
         526 result out.new }
 {
     let second = laid::lay(b" ", out, at);
     let third = joined(masters, out, second);
-    let fourth = counts(a, b, out, third);
-    let fifth = counts(c, d, out, fourth);
+    let fourth = counts(c.high, out, third);
+    let fifth = counts(c.low, out, fourth);
     laid::lay(b"\n", out, fifth)
 }
 
-// Lays the line of show, by the numbers of the core's fields.
-fn station(
-    p: Phase,
-    ts: u8,
-    ps: u8,
-    ns: u8,
-    masters: &[u8; 127],
-    a: u8,
-    b: u8,
-    c: u8,
-    d: u8,
-    out: &mut [u8],
-    at: usize,
-) -> usize
-    requires { at + 700 ≤ length out.old }
-    ensures { Lays out.old at
-        (w-ok ++
-        (spaced (phase_word p) ++
-        (spaced (numeral ts) ++
-        (spaced (numeral ps) ++
-        (spaced (numeral ns) ++
-        (spaced (printed_joined true 127 0 masters.now) ++
-        ((spaced (numeral a) ++ spaced (numeral b)) ++
-        ((spaced (numeral c) ++ spaced (numeral d)) ++ newline)))))))) 700 result
-        out.new }
-{
-    let second = laid::lay(b"ok", out, at);
-    let third = phase(p, out, second);
-    let fourth = phrases::number(ts, out, third);
-    let fifth = phrases::number(ps, out, fourth);
-    let sixth = phrases::number(ns, out, fifth);
-    listed(masters, a, b, c, d, out, sixth)
-}
-
 // Lays the line of show.
+#[tactic(auto, using(printed::proofs::phrases::Steps::laying), unfolding(printed::specs::Printed::shown_line))]
 pub fn shown(c: Core, masters: &[u8; 127], out: &mut [u8], at: usize) -> usize
     requires { at + 700 ≤ length out.old }
     ensures { Lays out.old at (shown_line c masters.now) 700 result out.new }
 {
-    let own = c.ts;
-    let ts = c.ts.0;
-    let ps = c.ps.0;
-    let doing = c.doing;
-    let p = doing.phase;
-    let confirmed = c.high.confirmed;
-    let unconfirmed = c.high.unconfirmed;
-    let below = c.low.confirmed;
-    let waiting = c.low.unconfirmed;
-    let ns = ns_of(masters, own);
-    station(
-        p,
-        ts,
-        ps,
-        ns,
-        masters,
-        confirmed,
-        unconfirmed,
-        below,
-        waiting,
-        out,
-        at,
-    )
+    let second = laid::lay(b"ok", out, at);
+    let third = phase(c.doing.phase, out, second);
+    let fourth = phrases::number(c.ts.0, out, third);
+    let fifth = phrases::number(c.ps.0, out, fourth);
+    let sixth = phrases::number(ns_of(masters, c.ts), out, fifth);
+    listed(c, masters, out, sixth)
 }

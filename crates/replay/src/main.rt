@@ -5,12 +5,19 @@
 
 ghost use Rattle.std.specs.Prelude.{◌≡◌, ◌<◌, false, length, IfOk, IfSome, OnOk};
 ghost use Rattle.std.specs.Io.KnownBytes.{Appends};
-ghost use Rattle.desk.specs.Desk.{Few, Arrays};
+ghost use Rattle.desk.specs.Desk.{Few};
+ghost use Rattle.desk.specs.Lent.{ArraysIn};
+ghost use Rattle.state.specs.Told.{SameRows};
 ghost use Rattle.typed_lines.specs.Intake.{ROOM};
-ghost use Rattle.replay.specs.Replay.{Ready};
-ghost use Rattle.replay.specs.Script.{READS, answers, stand, heeded, heeded_line, behind, written};
+ghost use Rattle.replay.specs.Lent.{ReadyIn, stand_in};
+ghost use Rattle.replay.specs.Script.{READS, answers, heeded, heeded_line, behind, written};
 
 use desk::Held;
+use frame::Address;
+use queue::Queue;
+use ring::Masters;
+use state::{Points, Rows};
+use station_start::starting;
 use std::io;
 use std::io::{Read, Write};
 
@@ -26,17 +33,29 @@ struct Pending {
     count: usize,
 }
 
-// Before the first start.
+// Before the first start: no line reads the state that stands here.
 fn unbegun() -> Held
     ensures { (Few result) × (result.begun ≡ false) }
 {
-    let r = play::start(b"");
-    let state = r.state;
+    let none = Queue {
+        places: 0,
+        first: 0,
+        confirmed: 0,
+        unconfirmed: 0,
+    };
     Held {
         begun: false,
         high: 0,
         low: 0,
-        state,
+        state: starting::fresh(
+            times::STANDARD,
+            Address(0),
+            Masters([0; 127]),
+            Points([0; 64]),
+            none,
+            none,
+            [0; 255],
+        ),
     }
 }
 
@@ -44,65 +63,60 @@ fn unbegun() -> Held
 fn heed<W: Write>(
     output: &mut W,
     whole: bool,
-    h: Held,
-    count: usize,
+    p: Pending,
     line: &mut [u8],
-    high: &mut [u8],
-    harea: &mut [u8],
-    low: &mut [u8],
-    larea: &mut [u8],
+    rows: &mut Rows,
     text: &mut [u8],
 ) -> io::Result<Pending>
-    requires { Ready h count line.old high.old harea.old low.old larea.old text.old }
-    ensures ready { IfOk result (λ p. Ready p.held p.count line.new high.new harea.new low.new larea.new text.new) }
-    ensures stand { IfOk result (λ p. stand p.held p.count line.new high.new harea.new low.new larea.new
-        ≡ heeded whole (stand h count line.old high.old harea.old low.old larea.old)) }
+    requires { ReadyIn p line.old rows.old text.old }
+    ensures ready { IfOk result (λ q. ReadyIn q line.new rows.new text.new) }
+    ensures stand { IfOk result (λ q. stand_in q line.new rows.new ≡ heeded whole (stand_in p line.old rows.old)) }
     ensures bytes { OnOk result (Appends (W.contents output.old) (W.contents output.new)
-        (heeded_line whole (stand h count line.old high.old harea.old low.old larea.old))) }
+        (heeded_line whole (stand_in p line.old rows.old))) }
+    ensures same { SameRows rows.old rows.new }
 {
     if !whole {
-        return Ok(Pending { held: h, count });
+        return Ok(p);
     }
-    let s = desk::answer(h, &line[..count], high, harea, low, larea, text);
-    let held = s.held;
-    let n = s.length;
-    output.write_all(&text[..n])?;
-    Ok(Pending { held, count: 0 })
+    let s = desk::answer(p.held, &line[..p.count], rows, text);
+    output.write_all(&text[..s.length])?;
+    Ok(Pending {
+        held: s.held,
+        count: 0,
+    })
 }
 
 // Answers each line that a block makes whole.
 fn take_in<W: Write>(
     output: &mut W,
     block: &[u8],
-    h: Held,
-    count: usize,
+    p: Pending,
     line: &mut [u8],
-    high: &mut [u8],
-    harea: &mut [u8],
-    low: &mut [u8],
-    larea: &mut [u8],
+    rows: &mut Rows,
     text: &mut [u8],
 ) -> io::Result<Pending>
-    requires { Ready h count line.old high.old harea.old low.old larea.old text.old }
-    ensures ready { IfOk result (λ p. Ready p.held p.count line.new high.new harea.new low.new larea.new text.new) }
-    ensures stand { IfOk result (λ p. stand p.held p.count line.new high.new harea.new low.new larea.new
-        ≡ behind block.now (stand h count line.old high.old harea.old low.old larea.old)) }
+    requires { ReadyIn p line.old rows.old text.old }
+    ensures ready { IfOk result (λ q. ReadyIn q line.new rows.new text.new) }
+    ensures stand { IfOk result (λ q. stand_in q line.new rows.new ≡ behind block.now (stand_in p line.old rows.old)) }
     ensures bytes { OnOk result (Appends (W.contents output.old) (W.contents output.new)
-        (written block.now (stand h count line.old high.old harea.old low.old larea.old))) }
+        (written block.now (stand_in p line.old rows.old))) }
+    ensures same { SameRows rows.old rows.new }
 {
-    let mut held = h;
-    let mut kept = count;
+    let mut held = p.held;
+    let mut count = p.count;
     let mut at = 0;
     while at < block.len() {
-        let g = typed_lines::gather(block, at, line, kept);
+        let g = typed_lines::gather(block, at, line, count);
         at = g.next;
-        let p = heed(
-            output, g.whole, held, g.count, line, high, harea, low, larea, text,
-        )?;
+        let pending = Pending {
+            held,
+            count: g.count,
+        };
+        let p = heed(output, g.whole, pending, line, rows, text)?;
         held = p.held;
-        kept = p.count;
+        count = p.count;
     }
-    Ok(Pending { held, count: kept })
+    Ok(Pending { held, count })
 }
 
 // Answers the lines of the input, the last one too if it has no line end.
@@ -111,42 +125,25 @@ fn serve<R: Read, W: Write>(
     output: &mut W,
     block: &mut [u8],
     line: &mut [u8],
-    high: &mut [u8],
-    harea: &mut [u8],
-    low: &mut [u8],
-    larea: &mut [u8],
+    rows: &mut Rows,
     text: &mut [u8],
 ) -> io::Result<()>
-    requires { (length line.old ≡ ROOM) × (Arrays high.old harea.old low.old larea.old text.old) }
+    requires { (length line.old ≡ ROOM) × (ArraysIn rows.old text.old) }
     ensures { OnOk result (0 < length block.old → IfSome (R.remaining input.old) (λ script. length script < READS
         → Appends (W.contents output.old) (W.contents output.new) (answers script))) }
 {
     let mut held = unbegun();
-    let mut kept = 0;
-    let mut left: u64 = 18446744073709551615;
-    while 0 < left {
+    let mut count = 0;
+    for _turn in 0..u64::MAX {
         let n = input.read(block)?;
+        let pending = Pending { held, count };
         if n == 0 {
-            heed(
-                output, true, held, kept, line, high, harea, low, larea, text,
-            )?;
+            heed(output, true, pending, line, rows, text)?;
             return Ok(());
         }
-        let p = take_in(
-            output,
-            &block[..n],
-            held,
-            kept,
-            line,
-            high,
-            harea,
-            low,
-            larea,
-            text,
-        )?;
+        let p = take_in(output, &block[..n], pending, line, rows, text)?;
         held = p.held;
-        kept = p.count;
-        left -= 1;
+        count = p.count;
     }
     Ok(())
 }
@@ -159,14 +156,17 @@ fn play_script<R: Read, W: Write>(input: &mut R, output: &mut W) -> io::Result<(
     let mut block = [0u8; 4096];
     let mut line = [0u8; 4097];
     let mut high = [0u8; ROW];
-    let mut harea = [0u8; AREA];
+    let mut high_area = [0u8; AREA];
     let mut low = [0u8; ROW];
-    let mut larea = [0u8; AREA];
+    let mut low_area = [0u8; AREA];
     let mut text = [0u8; 8192];
-    serve(
-        input, output, &mut block, &mut line, &mut high, &mut harea, &mut low, &mut larea,
-        &mut text,
-    )
+    let mut rows = Rows {
+        high: &mut high,
+        high_area: &mut high_area,
+        low: &mut low,
+        low_area: &mut low_area,
+    };
+    serve(input, output, &mut block, &mut line, &mut rows, &mut text)
 }
 
 fn main(rt: HostRuntime) -> io::Result<()> {

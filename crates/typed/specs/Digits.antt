@@ -1,10 +1,8 @@
 -- The replay script, "Numbers are decimal, leading zeros allowed, no sign. Octets are hex digits without spaces, two to
 -- an octet, upper case in what is printed and either case in what is read; `-` is none". Assumes nothing.
-use Rattle.std.specs.Prelude.{ℕ, ◌+◌, ◌-◌, ◌*◌, ◌/◌, ◌%◌, Bool, true, false, List, [], ◌∷◌, length}
+use Rattle.std.specs.Prelude.{ℕ, ◌+◌, ◌-◌, ◌*◌, ◌/◌, ◌%◌, Bool, true, false, List, [], ◌∷◌, length, Option, None, Some}
 use Rattle.choice.specs.Choice.{pick, less, same, said}
 use Rattle.laid.specs.Laid.{laid}
-use Rattle.typed.specs.declared.digits.Number.{Number}
-use Rattle.typed.specs.declared.digits.Octets.{Octets}
 
 -- ---- decimal numbers
 -- 0 to 9
@@ -20,11 +18,15 @@ unfoldable pub value_on : ℕ → List ℕ → ℕ
 value_on v [] = v
 value_on v (c ∷ l) = value_on (10 * v + (c - 48)) l
 
-unfoldable pub no_number : Number
-no_number = record { good = false; value = 0 }
+-- what a word is as a number, if it is one
+abbrev pub Number : Type 0
+Number = Option ℕ
 
-unfoldable pub number : ℕ → Number
-number v = record { good = true; value = v }
+abbrev pub no_number : Number
+no_number = None
+
+abbrev pub number : ℕ → Number
+number v = Some v
 
 -- the number that characters behind a value are, of at most a greatest
 unfoldable pub read_on : ℕ → ℕ → List ℕ → Number
@@ -66,14 +68,10 @@ dash (c ∷ (d ∷ l)) = false
 unfoldable pub is_octets : List ℕ → Bool
 is_octets l = pick (said (dash l)) true (pick (same (length l % 2) 0) (said (all_hex l)) false)
 
--- what reading such a word into an output of a length gives, and what it leaves there: nothing is done where the word
--- is no octets or the output is too short
-unfoldable pub hex : List ℕ → ℕ → Octets
-hex l room =
-    pick (said (is_octets l))
-    (pick (less room (length l / 2)) (record { good = false; count = 0 })
-    (record { good = true; count = length l / 2 }))
-    (record { good = false; count = 0 })
+-- what reading such a word into an output of a length gives, their count, and what it leaves there: nothing is done where
+-- the word is no octets or the output is too short
+unfoldable pub hex : List ℕ → ℕ → Option ℕ
+hex l room = pick (said (is_octets l)) (pick (less room (length l / 2)) None (Some (length l / 2))) None
 
 unfoldable pub hex_left : List ℕ → List ℕ → List ℕ
 hex_left l out =

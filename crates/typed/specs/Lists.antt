@@ -1,12 +1,10 @@
 -- The replay script, "`masters`: addresses 0..126 joined by commas, in any order. `points`: access points 0..62 and the
 -- word `none`, joined by commas; `-` for no access point at all"; "a second mention in a list changes nothing". A set
 -- is a list of octets, 1 at each number in it. Assumes nothing.
-use Rattle.std.specs.Prelude.{ℕ, ◌+◌, ◌-◌, Bool, true, false, List, [], ◌∷◌, ◌++◌, set, drop}
+use Rattle.std.specs.Prelude.{ℕ, Bool, true, false, List, [], ◌∷◌, ◌++◌, set, None, Some}
 use Rattle.choice.specs.Choice.{pick, same, said}
-use Rattle.frame.specs.Reading.{part}
 use Rattle.typed.specs.Words.{equal}
-use Rattle.typed.specs.declared.digits.Number.{Number}
-use Rattle.typed.specs.Digits.{decimal, number, dash}
+use Rattle.typed.specs.Digits.{Number, decimal, number, dash}
 
 abbrev pub COMMA : ℕ
 COMMA = 44
@@ -42,9 +40,12 @@ unfoldable pub listed : Bool → List ℕ → Listed
 listed good marks = record { good = good; marks = marks }
 
 -- a set with an entry
+abbrev marked : Number → List ℕ → Listed
+marked None marks = listed false marks
+marked (Some place) marks = listed true (set marks place 1)
+
 unfoldable pub closing : Bool → List ℕ → List ℕ → Listed
-closing points e marks =
-    pick (said (entry points e).good) (listed true (set marks (entry points e).value 1)) (listed false marks)
+closing points e marks = marked (entry points e) marks
 
 -- a set with the entries of a list, whose first entry began with characters before it
 unfoldable pub list_on : Bool → List ℕ → List ℕ → List ℕ → Listed
@@ -57,8 +58,3 @@ list_on points e (c ∷ l) marks =
 -- a set with the entries of a word
 unfoldable pub list : Bool → List ℕ → List ℕ → Listed
 list points l marks = pick (said (dash l)) (listed true marks) (list_on points [] l marks)
-
--- what is still to do behind the character at a place, where the entry at hand began at a place and all was good so far
-unfoldable pub after : Bool → List ℕ → ℕ → Bool → ℕ → List ℕ → Listed
-after points l i good from marks =
-    pick good (list_on points (part l from (i + 1 - from)) (drop (i + 1) l) marks) (listed false marks)

@@ -1,11 +1,10 @@
 -- The replay script, "What fits its place": the words that stand for a number, and what a word or some words of a line
 -- are. Assumes nothing.
-use Rattle.std.specs.Prelude.{ℕ, zero, suc, ◌+◌, Bool, true, false, List, [], ◌∷◌, replicate}
+use Rattle.std.specs.Prelude.{ℕ, zero, suc, ◌+◌, Bool, true, false, List, [], ◌∷◌, replicate, is_some}
 use Rattle.choice.specs.Choice.{pick, same, said}
 use Rattle.typed.specs.Words.{words, word, equal}
-use Rattle.typed.specs.declared.digits.Number.{Number}
 use Rattle.typed.specs.declared.places.Pair.{Pair}
-use Rattle.typed.specs.Digits.{decimal, number, no_number, dash}
+use Rattle.typed.specs.Digits.{Number, decimal, number, no_number, dash}
 use Rattle.typed.specs.Lists.{list}
 
 -- ---- the words that stand for themselves
@@ -99,7 +98,7 @@ named l name n = pick (same (words l) n) (said (called l name)) false
 -- some words from one on are numbers of at most a greatest
 unfoldable pub numbers : List ℕ → ℕ → ℕ → ℕ → Bool
 numbers l k zero most = true
-numbers l k (suc n) most = pick (said (decimal (word l k) most).good) (numbers l (k + 1) n most) false
+numbers l k (suc n) most = pick (said (is_some (decimal (word l k) most))) (numbers l (k + 1) n most) false
 
 -- "pairs of words, a name and its value": the pair of a name, if that is word k, has for its value the number that the
 -- next word is, of at most a greatest, and the word behind it is the next but one; "a pair may be left out and then has

@@ -25,6 +25,10 @@ begins l from = from + spaces (drop from l)
 unfoldable pub ends : List ℕ → ℕ → ℕ
 ends l from = from + letters (drop from l)
 
+-- what is left of a list behind its first word, from the next word on
+unfoldable pub behind : List ℕ → List ℕ
+behind l = let r : List ℕ = drop (letters l) l in drop (spaces r) r
+
 -- where the word begins that is k words ahead of the one that begins at a place
 unfoldable pub ahead : List ℕ → ℕ → ℕ → ℕ
 ahead l at zero = at

@@ -1,13 +1,8 @@
 // The lists of the replay script, read into sets: masters, and access points with the word `none`. Assumes nothing.
-ghost use Rattle.std.specs.Prelude.{true, false, [], ◌≡◌, ◌+◌, ◌-◌, ◌≤◌, ◌<◌, length, drop};
-ghost use Rattle.frame.specs.Reading.{part};
-ghost use Rattle.typed.specs.Lists.{greatest, entry as lists_entry, listed, closing, list_on};
-ghost use Rattle.typed.specs.Lists.{list as lists_list, after};
+ghost use Rattle.std.specs.Prelude.{true, false, [], ◌≡◌, ◌<◌, length};
+ghost use Rattle.typed.specs.Lists.{greatest, entry as lists_entry, listed, closing, list_on, list as lists_list};
 
-use super::digits::Number;
-use super::{digits, words};
-
-const COMMA: u8 = 44;
+use super::digits;
 
 // The last address and the last access point that a list may hold, and the place of the word `none` in a set.
 const LASTMASTER: u32 = 126;
@@ -16,58 +11,28 @@ const LASTPOINT: u32 = 62;
 
 const NONEPLACE: u32 = 63;
 
-// Where an entry begins, and whether all entries before it are good.
-#[derive(Clone, Copy)]
-struct Step {
-    good: bool,
-    from: usize,
-}
-
 // The place of an entry in a set of points or of masters.
-fn entry(e: &[u8], points: bool) -> Number
+#[tactic(auto, using(crate::proofs::words::Walk::equal_reads), unfolding(choice::specs::Choice::pick, choice::specs::Choice::said, crate::specs::Lists::entry))]
+fn entry(e: &[u8], points: bool) -> Option<u32>
     ensures { result ≡ lists_entry points e.now }
 {
-    if points {
-        if words::equal(e, b"none") {
-            return digits::valued(NONEPLACE);
-        }
-        return digits::decimal(e, LASTPOINT);
+    match e {
+        b"none" if points => Some(NONEPLACE),
+        _ => digits::decimal(e, if points { LASTPOINT } else { LASTMASTER }),
     }
-    digits::decimal(e, LASTMASTER)
 }
 
 // Adds an entry to a set, if it is good.
+#[tactic(auto, using(crate::proofs::lists::Commas::entry_most), unfolding(crate::specs::Lists::closing))]
 fn close(e: &[u8], points: bool, out: &mut [u8]) -> bool
     requires { greatest points < length out.old }
     ensures { listed result out.new ≡ closing points e.now out.old }
 {
-    let n = entry(e, points);
-    let good = n.good;
-    let value = n.value;
-    if good {
-        out[value as usize] = 1;
-        return true;
-    }
-    false
-}
-
-// Heeds the character at a place: behind a comma the next entry begins.
-fn heed(s: &[u8], points: bool, from: usize, i: usize, out: &mut [u8]) -> Step
-    requires { (from ≤ i) × (i < length s.now) × (greatest points < length out.old) }
-    ensures out_after { after points s.now i result.good result.from out.new
-        ≡ list_on points (part s.now from (i - from)) (drop i s.now) out.old }
-    ensures from_bound { result.from ≤ i + 1 }
-{
-    if s[i] != COMMA {
-        return Step { good: true, from };
-    }
-    if close(read::part(s, from, i - from), points, out) {
-        return Step {
-            good: true,
-            from: i + 1,
-        };
-    }
-    Step { good: false, from }
+    let Some(place) = entry(e, points) else {
+        return false;
+    };
+    out[place as usize] = 1;
+    true
 }
 
 // Adds the entries of a list to a set, up to a bad one.
@@ -75,31 +40,26 @@ fn entries(s: &[u8], points: bool, out: &mut [u8]) -> bool
     requires { greatest points < length out.old }
     ensures { listed result out.new ≡ list_on points [] s.now out.old }
 {
-    let mut from = 0;
-    let mut i = 0;
-    while i < s.len() {
-        let t = heed(s, points, from, i, out);
-        if !t.good {
+    for e in s.split(|c| *c == b',') {
+        if !close(e, points, out) {
             return false;
         }
-        from = t.from;
-        i += 1;
     }
-    close(read::part(s, from, i - from), points, out)
+    true
 }
 
 // Reads a word as a list into a set, and says whether it is one.
+#[tactic(auto, unfolding(choice::specs::Choice::pick, choice::specs::Choice::said, crate::specs::Lists::list))]
 fn list(s: &[u8], points: bool, out: &mut [u8]) -> bool
     requires { greatest points < length out.old }
     ensures { listed result out.new ≡ lists_list points s.now out.old }
 {
-    if digits::dash(s) {
-        return true;
-    }
-    entries(s, points, out)
+    digits::dash(s) || entries(s, points, out)
 }
 
 // Reads a word as a list of masters into the set of them, and says whether it is one.
+// Kept: `list(w, false, &mut set)` at a caller is no plainer, and would ask for a bound that the set's type has.
+#[tactic(auto, unfolding(choice::specs::Choice::pick, crate::specs::Lists::greatest))]
 pub fn masters(s: &[u8], out: &mut [u8; 127]) -> bool
     ensures { listed result out.new ≡ lists_list false s.now out.old }
 {
@@ -107,6 +67,7 @@ pub fn masters(s: &[u8], out: &mut [u8; 127]) -> bool
 }
 
 // Reads a word as a list of access points into the set of them, and says whether it is one.
+#[tactic(auto, unfolding(choice::specs::Choice::pick, crate::specs::Lists::greatest))]
 pub fn points(s: &[u8], out: &mut [u8; 64]) -> bool
     ensures { listed result out.new ≡ lists_list true s.now out.old }
 {

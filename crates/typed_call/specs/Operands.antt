@@ -1,5 +1,6 @@
 -- The replay script: what the words of a call's line give the call, each a function of the line. Assumes nothing.
 use Rattle.std.specs.Prelude.{ℕ, Bool, true, false, List, [], replicate}
+use Rattle.std.specs.Option.{unwrap_or}
 use Rattle.choice.specs.Choice.{pick, less, same, said}
 use Rattle.typed.specs.Words.{word}
 use Rattle.typed.specs.Digits.{decimal, is_octets, octets}
@@ -17,7 +18,7 @@ use Rattle.state.specs.declared.Priority.TheVariants.{High, Low}
 -- ---- words
 -- the number that word k is
 unfoldable pub number_at : List ℕ → ℕ → ℕ → ℕ
-number_at l k most = (decimal (word l k) most).value
+number_at l k most = unwrap_or (decimal (word l k) most) 0
 
 -- the octets that word k is
 unfoldable pub octets_at : List ℕ → ℕ → List ℕ
@@ -43,7 +44,7 @@ settings_of l =
       ttd = record { 0 = number_at l Table.TTD LONG };
       ttr = record { 0 = number_at l Table.TTR LONG };
       retries = record { 0 = number_at l Table.RETRY LONG };
-      tsdi = record { 0 = (tsdi_of l).number.value };
+      tsdi = record { 0 = unwrap_or (tsdi_of l).number 0 };
     }
 
 unfoldable pub ts_of : List ℕ → ℕ
@@ -63,20 +64,20 @@ low_of l = number_at l Table.LOWROW SHORT
 
 -- `submit QUEUE SERVICE DA DSAP SSAP DATA` with `ref N` and `limit N`, `collect QUEUE`
 unfoldable pub queue_of : List ℕ → Priority
-queue_of l = pick (same (queue (word l Table.QUEUE)).value 0) High Low
+queue_of l = pick (same (unwrap_or (queue (word l Table.QUEUE)) 0) 0) High Low
 
 unfoldable pub request_of : List ℕ → Record
 request_of l =
     record {
-      service = octet (service (word l Table.SERVICE)).value;
+      service = octet (unwrap_or (service (word l Table.SERVICE)) 0);
       destination = record { 0 = octet (number_at l Table.DA SHORT) };
-      to = record { 0 = point (access (word l Table.DSAP)).value };
-      from = record { 0 = point (access (word l Table.SSAP)).value };
+      to = record { 0 = point (unwrap_or (access (word l Table.DSAP)) 0) };
+      from = record { 0 = point (unwrap_or (access (word l Table.SSAP)) 0) };
       length = 0;
       status = WAITING;
       count = 0;
-      reference = (ref_of l).number.value;
-      limit = octet (limit_of l).number.value;
+      reference = unwrap_or (ref_of l).number 0;
+      limit = octet (unwrap_or (limit_of l).number 0);
       asks = asks_of l;
     }
 
@@ -89,7 +90,7 @@ clock_of l = number_at l Table.CLOCK LONG
 
 -- "`1` if the caller has room for one indication, else `0`"
 unfoldable pub room_of : List ℕ → Bool
-room_of l = same (room (word l Table.ROOM)).value 1
+room_of l = same (unwrap_or (room (word l Table.ROOM)) 0) 1
 
 abbrev pub first_of : List ℕ → List ℕ
 first_of l = octets_at l Table.HIGH

@@ -1,7 +1,7 @@
 -- The replay script, "As the requests of document 02 land": "What a request adds stands behind today's words as pairs of
 -- words, a name and its value, in the order given here". The pairs of each line in their order, the first behind the
 -- line's words and each behind the one before it, and where the line ends: behind its last pair. Assumes nothing.
-use Rattle.std.specs.Prelude.{ℕ, Bool, false, List, [], ◌∷◌}
+use Rattle.std.specs.Prelude.{ℕ, Bool, false, List, [], ◌∷◌, is_some}
 use Rattle.choice.specs.Choice.{pick, same, said}
 use Rattle.times.specs.Times.{standard}
 use Rattle.typed.specs.declared.places.Pair.{Pair}
@@ -20,7 +20,7 @@ tsdi_of l = pair l Table.STARTWORDS w-tsdi LONG standard.tsdi.0
 
 -- the pairs of a start fit their places, and the line ends behind the last
 unfoldable pub start_pairs : List ℕ → Bool
-start_pairs l = pick (said (tsdi_of l).number.good) (same (words l) (tsdi_of l).behind) false
+start_pairs l = pick (said (is_some (tsdi_of l).number)) (same (words l) (tsdi_of l).behind) false
 
 -- ---- "of `submit`: `ref`, `limit`"
 -- "ref"
@@ -45,5 +45,5 @@ asks_of l = same (limit_of l).behind (ref_of l).behind
 -- the pairs of a submit fit their places, and the line ends behind the last
 unfoldable pub submit_pairs : List ℕ → Bool
 submit_pairs l =
-    pick (said (ref_of l).number.good)
-    (pick (said (limit_of l).number.good) (same (words l) (limit_of l).behind) false) false
+    pick (said (is_some (ref_of l).number))
+    (pick (said (is_some (limit_of l).number)) (same (words l) (limit_of l).behind) false) false

@@ -1,6 +1,6 @@
 -- The replay script, its table of lines: the word and the count of words of each call, and what fits each place. A line
 -- that is no call of the table is Unknown. Assumes nothing.
-use Rattle.std.specs.Prelude.{ℕ, Bool, false, List, [], ◌∷◌}
+use Rattle.std.specs.Prelude.{ℕ, Bool, false, List, [], ◌∷◌, is_some}
 use Rattle.choice.specs.Choice.{pick, said}
 use Rattle.typed.specs.Words.{word}
 use Rattle.typed.specs.Digits.{is_octets}
@@ -63,18 +63,18 @@ is_start l =
 -- `submit QUEUE SERVICE DA DSAP SSAP DATA`, and behind it its pairs
 unfoldable pub is_pointed : List ℕ → Bool
 is_pointed l =
-    pick (said (access (word l Table.DSAP)).good)
-    (pick (said (access (word l Table.SSAP)).good) (is_octets (word l Table.DATA)) false) false
+    pick (said (is_some (access (word l Table.DSAP))))
+    (pick (said (is_some (access (word l Table.SSAP)))) (is_octets (word l Table.DATA)) false) false
 
 unfoldable pub is_request : List ℕ → Bool
 is_request l =
-    pick (said (service (word l Table.SERVICE)).good)
+    pick (said (is_some (service (word l Table.SERVICE))))
     (pick (said (numbers l Table.DA 1 SHORT)) (is_pointed l) false) false
 
 unfoldable pub is_submit : List ℕ → Bool
 is_submit l =
     pick (said (called l w-submit))
-    (pick (said (submit_pairs l)) (pick (said (queue (word l Table.QUEUE)).good) (is_request l) false) false) false
+    (pick (said (submit_pairs l)) (pick (said (is_some (queue (word l Table.QUEUE)))) (is_request l) false) false) false
 
 -- `frame CLOCK ROOM HIGH LOW OCTETS`
 unfoldable pub is_heard : List ℕ → Bool
@@ -86,7 +86,7 @@ unfoldable pub is_frame : List ℕ → Bool
 is_frame l =
     pick (said (named l w-frame Table.FRAMEWORDS))
     (pick (said (numbers l Table.CLOCK 1 LONG))
-    (pick (said (room (word l Table.ROOM)).good) (is_heard l) false) false) false
+    (pick (said (is_some (room (word l Table.ROOM)))) (is_heard l) false) false) false
 
 -- `sent CLOCK` and `slot CLOCK`
 unfoldable pub is_clocked : List ℕ → List ℕ → Bool
@@ -94,7 +94,7 @@ is_clocked l name = pick (said (named l name Table.CLOCKEDWORDS)) (numbers l Tab
 
 -- `collect QUEUE`
 unfoldable pub is_collect : List ℕ → Bool
-is_collect l = pick (said (named l w-collect Table.COLLECTWORDS)) (queue (word l Table.QUEUE)).good false
+is_collect l = pick (said (named l w-collect Table.COLLECTWORDS)) (is_some (queue (word l Table.QUEUE))) false
 
 -- the call that a line is: of those given nothing but a queue, of these and those given nothing but a clock, and of all
 unfoldable pub plain_of : List ℕ → Call

@@ -9,6 +9,7 @@ use typed::places::{LONG, Pair, SHORT};
 use typed::{places, words};
 
 // The pairs of start, in their order.
+#[tactic(auto, unfolding(crate::specs::Pairs::tsdi_of))]
 pub fn tsdi(line: &[u8]) -> Pair
     ensures { result ≡ tsdi_of line.now }
 {
@@ -22,26 +23,23 @@ pub fn tsdi(line: &[u8]) -> Pair
 }
 
 // Whether the pairs of a start fit their places, and the line ends behind the last.
+#[tactic(auto, unfolding(choice::specs::Choice::pick, choice::specs::Choice::said, choice::specs::Choice::same, crate::specs::Pairs::start_pairs))]
 pub fn start_pairs(line: &[u8]) -> bool
     ensures { result ≡ start_pairs line.now }
 {
     let last = tsdi(line);
-    if !last.number.good {
-        return false;
-    }
-    if words::count(line) == last.behind {
-        return true;
-    }
-    false
+    last.number.is_some() && words::count(line) == last.behind
 }
 
 // The pairs of submit, in their order.
+#[tactic(auto, unfolding(crate::specs::Pairs::ref_of))]
 pub fn reference(line: &[u8]) -> Pair
     ensures { (result ≡ ref_of line.now) × (result.behind ≤ 9) }
 {
     places::pair_at(line, table::SUBMITWORDS, b"ref", LONG, 0)
 }
 
+#[tactic(auto, unfolding(crate::specs::Pairs::limit_of))]
 pub fn limit(line: &[u8]) -> Pair
     ensures { result ≡ limit_of line.now }
 {
@@ -49,28 +47,18 @@ pub fn limit(line: &[u8]) -> Pair
 }
 
 // Whether a submit leaves its limit to the station.
+#[tactic(auto, unfolding(choice::specs::Choice::same, crate::specs::Pairs::asks_of))]
 pub fn asks(line: &[u8]) -> bool
     ensures { result ≡ asks_of line.now }
 {
-    if limit(line).behind == reference(line).behind {
-        return true;
-    }
-    false
+    limit(line).behind == reference(line).behind
 }
 
 // Whether the pairs of a submit fit their places, and the line ends behind the last.
+#[tactic(auto, unfolding(choice::specs::Choice::pick, choice::specs::Choice::said, choice::specs::Choice::same, crate::specs::Pairs::submit_pairs))]
 pub fn submit_pairs(line: &[u8]) -> bool
     ensures { result ≡ submit_pairs line.now }
 {
-    if !reference(line).number.good {
-        return false;
-    }
     let last = limit(line);
-    if !last.number.good {
-        return false;
-    }
-    if words::count(line) == last.behind {
-        return true;
-    }
-    false
+    reference(line).number.is_some() && last.number.is_some() && words::count(line) == last.behind
 }

@@ -1,11 +1,11 @@
 // The lines of an input that comes in blocks, gathered one at a time in memory that does not grow. Assumes nothing.
 #![tactic(auto)]
 
-ghost use Rattle.std.specs.Prelude.{◌≡◌, [], ◌∷◌, ◌++◌, ◌≤◌, length, take};
-ghost use Rattle.laid.specs.Laid.{laid};
-ghost use Rattle.typed_lines.specs.Intake.{ROOM as intake_room, kept, Gathers};
+ghost use Rattle.std.specs.Prelude.{◌≡◌, ◌≤◌, ◌==◌, not, length, drop};
+ghost use Rattle.std.specs.List.{prefix_len};
+ghost use Rattle.typed_lines.specs.Intake.{ROOM as intake_room, Gathers};
 
-const NEWLINE: u8 = 0x0A;
+const NEWLINE: u8 = b'\n';
 
 const ROOM: usize = 4097;
 
@@ -18,17 +18,19 @@ pub struct Gathered {
     pub whole: bool,
 }
 
-// Adds an octet to a line of which some are kept, if there is room.
-fn put(c: u8, line: &mut [u8], count: usize) -> usize
-    requires { (length line.old ≡ intake_room) × (count ≤ intake_room) }
-    ensures { (result ≡ length (kept (take count line.old ++ (c ∷ []))))
-        × (line.new ≡ laid line.old 0 (kept (take count line.old ++ (c ∷ [])))) }
+// The octets of a block from a place on: none behind its end.
+fn rest(block: &[u8], from: usize) -> &[u8]
+    ensures { result.now ≡ drop from block.now }
 {
-    if count < ROOM {
-        line[count] = c;
-        return count + 1;
-    }
-    count
+    block.get(from..).unwrap_or(&[])
+}
+
+// How many octets stand before the first line end, or in all.
+fn before(s: &[u8]) -> usize
+    ensures value { result ≡ prefix_len (λ c. not (c == 10)) s.now }
+    ensures upper_bound { result ≤ length s.now }
+{
+    s.iter().take_while(|c| **c != NEWLINE).count()
 }
 
 // Adds the octets of a block from a place on to a line of which some are kept, up to a line end.
@@ -36,23 +38,13 @@ pub fn gather(block: &[u8], from: usize, line: &mut [u8], count: usize) -> Gathe
     requires { (length line.old ≡ intake_room) × (count ≤ intake_room) }
     ensures { Gathers line.old block.now from count result line.new }
 {
-    let mut i = from;
-    let mut k = count;
-    while i < block.len() {
-        let c = block[i];
-        if c == NEWLINE {
-            return Gathered {
-                next: i + 1,
-                count: k,
-                whole: true,
-            };
-        }
-        k = put(c, line, k);
-        i += 1;
-    }
+    let rest = rest(block, from);
+    let length = before(rest);
+    let kept = laid::lay(&rest[..length.min(ROOM - count)], line, count);
+    let whole = length < rest.len();
     Gathered {
-        next: i,
-        count: k,
-        whole: false,
+        next: from + length + usize::from(whole),
+        count: kept,
+        whole,
     }
 }

@@ -4,20 +4,12 @@ use Rattle.choice.proofs.Rules.{said-true, said-false}
 use Rattle.desk.specs.Desk.{answer_by}
 use Rattle.desk.proofs.answer_by.Goals as goal
 
-pub begin-requires : goal.begin-requires
-begin-requires c =
-    (c.requires.0, c.requires.1)
-
-pub go_on-requires : goal.go_on-requires
-go_on-requires c =
-    (c.requires.0, c.requires.1, c.requires.2)
-
-pub returns-then-starts : goal.returns-then-starts
+pub returns-then-starts-clause-answers : goal.returns-then-starts-clause-answers
 unfolding answer_by pick
-returns-then-starts c =
-    rw (said-true c.starts.ensures c.if-starts.true) c.begin.ensures
+returns-then-starts-clause-answers c =
+    rw (said-true c.starts.ensures c.if-starts.true) c.begin.ensures.answers
 
-pub returns : goal.returns
+pub returns-else-starts-clause-answers : goal.returns-else-starts-clause-answers
 unfolding answer_by pick
-returns c =
-    rw (said-false c.starts.ensures c.if-starts.false) c.go_on.ensures
+returns-else-starts-clause-answers c =
+    rw (said-false c.starts.ensures c.if-starts.false) c.go_on.ensures.answers

@@ -12,11 +12,11 @@ slice_bounds-submit-end c =
     c.octets-n.new.out
     c.octets-n.ensures.1)
 
-pub returns : goal.returns
+pub returns-clause-played : goal.returns-clause-played
 unfolding submit_by call
-returns c =
+returns-clause-played c =
     rw (
       ← c.queue-p.ensures,
       ← c.request-r.ensures,
       ← c.octets-n.ensures.0,
-    ) c.submit.ensures
+    ) c.submit.ensures.played

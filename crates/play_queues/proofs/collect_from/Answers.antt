@@ -4,4 +4,4 @@ use Rattle.play_queues.proofs.collect_from.Goals as goal
 
 pub returns : goal.returns
 returns c =
-    collect-told _ _ _ _ c.collect-a.ensures c.handed-length.ensures
+    collect-told _ _ _ _ c.collect-a.ensures c.handed.ensures.state_value c.handed.ensures.lays

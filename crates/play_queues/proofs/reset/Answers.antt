@@ -2,6 +2,6 @@
 use Rattle.play_queues.proofs.Told.{reset-told}
 use Rattle.play_queues.proofs.reset.Goals as goal
 
-pub returns : goal.returns
-returns c =
-    reset-told _ _ c.reset-a.ensures c.plain-length.ensures
+pub returns-clause-played : goal.returns-clause-played
+returns-clause-played c =
+    reset-told _ _ c.reset-a.ensures.told c.plain.ensures.state_value c.plain.ensures.lays

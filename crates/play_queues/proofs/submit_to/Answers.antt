@@ -4,4 +4,4 @@ use Rattle.play_queues.proofs.submit_to.Goals as goal
 
 pub returns : goal.returns
 returns c =
-    submit-told _ _ _ c.submit-a.ensures c.plain-length.ensures
+    submit-told _ _ _ c.submit-a.ensures c.submitted.ensures.state_value c.submitted.ensures.lays

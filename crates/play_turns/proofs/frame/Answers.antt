@@ -1,17 +1,7 @@
 -- `play_turns::frame` meets its contract: what the call told, and its line.
-use native.Mathlib.Omega.{arith}
-use Prim.Native.Nat.{ℕ}
-use lib.ListN.{length-replicate}
 use Rattle.printed_lines.proofs.saying.Tells.{says-told}
 use Rattle.play_turns.proofs.frame.Goals as goal
 
-pub told-requires : goal.told-requires
-told-requires c = (
-  omega (arith, c.frame-a.auto.out, length-replicate {A = ℕ} 255 0),
-  c.requires.0,
-  c.requires.1,
-)
-
-pub returns : goal.returns
-returns c =
-    says-told _ _ _ _ c.frame-a.ensures c.told.ensures.state_value c.told.ensures.lays
+pub returns-clause-played : goal.returns-clause-played
+returns-clause-played c =
+    says-told _ _ _ _ c.frame-a.ensures.told c.told.ensures.state_value c.told.ensures.lays

@@ -8,9 +8,10 @@ use native.Mathlib.Omega.{arith}
 use lib.ListN.{length, set}
 use Rattle.choice.specs.Choice.{less}
 use Rattle.choice.proofs.Rules.{pick_true, pick-false, less-true, less-false, true-less, false-less}
-use Rattle.laid.specs.Laid.{Lays}
-use Rattle.laid.proofs.Laws.{laid_nil, lays-sets, lays-then, lays-within, lays-room}
+use Rattle.laid.specs.Laid.{laid}
+use Rattle.laid.proofs.Laws.{laid-sets}
 use Rattle.printed.specs.Numeral.{digit, numeral, numeral_in}
+use Rattle.printed.proofs.phrases.Steps.{laying}
 
 -- ---- one digit more allowed
 pub numeral-one : (k n : ℕ) → n < 10 → numeral_in (suc k) n ≡ (48 + n) ∷ []
@@ -47,23 +48,22 @@ unfolding numeral power
 numeral-octet n h = numeral-within 2 9 n (omega arith) (omega arith)
 
 -- ---- the steps
-pub lays-none : (l : List ℕ) (at k n : ℕ) → k ≡ 0 → Lays l at (numeral_in k n) k at l
+pub numeral_none : (k n : ℕ) → k ≡ 0 → numeral_in k n ≡ []
 unfolding numeral_in
-lays-none l at k n e = rw e (record { place = omega arith; left = sym (laid_nil l at); near = omega arith })
+numeral_none k n e = rw e refl
 
-pub lays_one : (l : List ℕ) (at k n : ℕ) → at + k ≤ length l → (k ≡ 0 → ⊥) → n < 10
-    → Lays l at (numeral_in k n) k (at + 1) (set l at (48 + n))
-lays_one l at zero n h m e = absurd (m refl)
-lays_one l at (suc k) n h m e =
-    rw (numeral-one k n e) (lays-sets l at ((48 + n) ∷ []) (suc k) _ _ (omega arith) (omega arith) refl refl)
+pub numeral_only : (k n : ℕ) → (k ≡ 0 → ⊥) → n < 10 → numeral_in k n ≡ (48 + n) ∷ []
+numeral_only zero n m h = absurd (m refl)
+numeral_only (suc k) n m h = numeral-one k n h
 
-pub lays-last : (l : List ℕ) (at k n r : ℕ) (m : List ℕ) → at + k ≤ length l → (k ≡ 0 → ⊥) → 10 ≤ n
-    → Lays l at (numeral_in (k - 1) (n / 10)) (k - 1) r m → Lays l at (numeral_in k n) k (r + 1) (set m r (48 + n % 10))
-lays-last l at zero n r m h z e x = absurd (z refl)
-lays-last l at (suc k) n r m h z e x =
-    let p : suc k - 1 ≡ k = omega arith in
-    let y = rw p at x in
-    let g : r + 1 ≤ length m = lays-room 1 (omega arith) y in
-    rw (numeral-more k n e)
-    (lays-within (suc k) (omega arith)
-    (lays-then (omega arith) y (lays-sets m r ((48 + n % 10) ∷ []) 1 _ _ (omega arith) (omega arith) refl refl)))
+pub numeral_last : (k n : ℕ) → (k ≡ 0 → ⊥) → 10 ≤ n
+    → numeral_in k n ≡ numeral_in (k - 1) (n / 10) ++ ((48 + n % 10) ∷ [])
+numeral_last zero n m h = absurd (m refl)
+numeral_last (suc k) n m h = let e : suc k - 1 ≡ k = omega arith in rw e (numeral-more k n h)
+
+-- a store lays one octet
+pub set_laid : (l : List ℕ) (i v : ℕ) → i < length l → set l i v ≡ laid l i (v ∷ [])
+set_laid l i v h = laid-sets l i (v ∷ []) (omega arith)
+
+-- what follows of the steps of laying a number
+pub ruleset digits = (numeral_none, numeral_only, numeral_last, numeral-octet, set_laid, laying)

@@ -6,9 +6,8 @@ use Rattle.choice.specs.Choice.{pick, less, same, said}
 use Rattle.control.specs.declared.Control.TheVariants.{Request}
 use Rattle.control.specs.declared.Service.TheVariants.{SdnHigh}
 use Rattle.control.specs.Control.{bit, fc}
-use Rattle.frame.specs.declared.Access.TheVariants.{None as NoAccess, At}
+use Rattle.std.specs.Prelude.{None, Some}
 use Rattle.frame.specs.Reading.{shown as data_of}
-use Rattle.state.specs.declared.Indication.TheVariants.{None, Shown}
 use Rattle.frame.specs.Access.{point_of}
 use Rattle.ring.specs.Ring.{member}
 use Rattle.typed.specs.Digits.{glyph, hex_of, shown}
@@ -32,13 +31,16 @@ unfolding pick less same said digit numeral_in numeral glyph hex_of shown data_o
 nothing-sent = refl
 
 -- "ok indicate sdn high 127 5 60 - 01FF", of the data of a frame, and nothing sent
-pub an-indication : done_line 0 [] (Shown (record {
-  destination = record { 0 = 127 };
-  to = At (record { 0 = 60 });
-  source = record { 0 = 5 };
-  from = NoAccess;
-  control = Request SdnHigh false false;
-}) (record { start = 1; count = 2 })) (9 ∷ (1 ∷ (255 ∷ (9 ∷ [])))) ≡
+pub an-indication : done_line 0 [] (Some (record {
+  head = record {
+    destination = record { 0 = 127 };
+    to = Some (record { 0 = 60 });
+    source = record { 0 = 5 };
+    from = None;
+    control = Request SdnHigh false false;
+  };
+  part = record { start = 1; count = 2 };
+})) (9 ∷ (1 ∷ (255 ∷ (9 ∷ [])))) ≡
     (111 ∷ (107 ∷ (32 ∷ (105 ∷ (110 ∷ (100 ∷ (105 ∷
     (99 ∷ (97 ∷ (116 ∷ (101 ∷ (32 ∷ (115 ∷ (100 ∷
     (110 ∷ (32 ∷ (104 ∷ (105 ∷ (103 ∷ (104 ∷ (32 ∷

@@ -6,7 +6,7 @@ use native.Mathlib.Omega.{arith}
 use lib.ListN.{length, take}
 use Rattle.laid.specs.Laid.{laid, Lays}
 use Rattle.laid.proofs.Octets.{laid-part}
-use Rattle.state.specs.declared.Answer.{Answer}
+use Rattle.state.specs.Told.{Answer}
 use Rattle.state.specs.declared.State.{State}
 use Rattle.state.specs.World.{Rows, Called}
 use Rattle.state.specs.Told.{Telling, telling, Leaves, leaves, told, answer_of as answer_to}

@@ -2,40 +2,21 @@
 use Prim.Native.Nat.{ℕ, suc, ◌+◌, ◌-◌, ◌<◌, ◌≤◌}
 use mathlib.Core.Bool.{Bool, true, false}
 use mathlib.Core.List.{List, [], ◌++◌}
-use mathlib.Core.Path.{◌≡◌, refl, sym, ◌∙◌}
+use mathlib.Core.Path.{◌≡◌}
 use native.Mathlib.Omega.{arith}
-use lib.ListN.{length, length-append}
+use lib.ListN.{length}
 use Rattle.choice.specs.Choice.{pick}
 use Rattle.choice.proofs.Rules.{pick_true, pick-false}
-use Rattle.laid.specs.Laid.{laid, Lays}
-use Rattle.laid.proofs.Laws.{laid_nil, laid-behind}
+use Rattle.laid.specs.Laid.{laid}
 use Rattle.printed.specs.Numeral.{numeral}
 use Rattle.printed.specs.Printed.{comma, joined}
+use Rattle.printed.proofs.phrases.Steps.{laying}
 use Rattle.ring.specs.Ring.{member}
 
 -- with v still to come at a place, all of u is laid
 pub record Comes (l : List ℕ) (at : ℕ) (u : List ℕ) (w : ℕ) (v m : List ℕ) : Type 0 where
   pub place : w + length v ≡ at + length u
   pub left : laid m w v ≡ laid l at u
-
--- at the start all is still to come, at the end nothing is
-pub comes-all : (l : List ℕ) (at : ℕ) (u : List ℕ) → Comes l at u at u l
-comes-all l at u = record { place = refl; left = refl }
-
-pub comes-end : (l : List ℕ) (at : ℕ) (u : List ℕ) (w : ℕ) (m : List ℕ) (room : ℕ) → w ≤ at + room
-    → Comes l at u w [] m → Lays l at u room w m
-comes-end l at u w m room h x =
-    record { place = omega (arith, x.place); left = sym (laid_nil m w) ∙ x.left; near = omega (arith, x.place) }
-
--- a step lays the first piece of what is to come
-pub comes-step : (l : List ℕ) (at : ℕ) (u : List ℕ) (w : ℕ) (x v m : List ℕ) (room q : ℕ) (n : List ℕ)
-    → w + room ≤ length m
-    → Comes l at u w (x ++ v) m → Lays m w x room q n → Comes l at u q v n
-comes-step l at u w x v m room q n h c y =
-    record {
-      place = omega (arith, y.place, c.place, length-append x v);
-      left = laid-behind m n w q x v (omega (arith, y.near)) y.place y.left ∙ c.left;
-    }
 
 -- ---- the list one address on
 on : (a : ℕ) → a < 127 → 127 - a ≡ suc (127 - (a + 1))
@@ -58,3 +39,6 @@ joined-last masters first a h = rw (none a h)
   where
     none : (a : ℕ) → 127 ≤ a → 127 - a ≡ 0
     none a h = omega arith
+
+-- what follows of a step of the walk
+pub ruleset walk = (laying, joined_in, joined-out, joined-last)

@@ -7,8 +7,8 @@ use Rattle.replay.specs.Script.{stand, answers}
 use Rattle.replay.proofs.Whole.{served-none, served-on, served-all, served-many}
 use Rattle.replay.proofs.serve.Goals as goal
 
-pub loop-left-init : goal.loop-left-init
-loop-left-init g c =
+pub loop-turn-init : goal.loop-turn-init
+loop-turn-init g c =
     record {
       ready =
           record {
@@ -25,20 +25,20 @@ unfolding stand desk_of
 returns-then-n-eq0 g c = λ h.
     let some : 0 < length c.read.new.buf = omega (arith, h) in
     served-all (g.R.Read.remaining c.read.new.self) (g.W.Write.contents c.heed.new.output)
-    c.loop-left.invariant.served c.unbegun-held.ensures.1 (rw c.if-n-eq0.true at c.in_ok-n.ensures.bytes.0)
+    c.loop-turn.invariant.served c.unbegun-held.ensures.1 (rw c.if-n-eq0.true at c.in_ok-n.ensures.bytes.0)
     (c.in_ok-n.ensures.bytes.1 c.if-n-eq0.true some) c.in_ok-heed.ensures.bytes
 
-pub loop-left-preserved : goal.loop-left-preserved
-loop-left-preserved g c =
+pub loop-turn-preserved : goal.loop-turn-preserved
+loop-turn-preserved g c =
     let n = length-take-le c.in_ok-n.n c.read.new.buf c.in_ok-n.ensures.bound.0 in
     record {
       ready = c.in_ok-p.ensures.ready;
       served =
-          served-on (take c.in_ok-n.n c.read.new.buf) c.loop-left.invariant.served c.in_ok-n.ensures.bytes.0
+          served-on (take c.in_ok-n.n c.read.new.buf) c.loop-turn.invariant.served c.in_ok-n.ensures.bytes.0
           (omega (arith, n)) c.in_ok-p.ensures.stand c.in_ok-p.ensures.bytes (omega arith);
     }
 
 pub returns : goal.returns
 returns g c = λ h.
-    served-many c.loop-left.invariant.served (omega arith)
-    (λ script. Appends (g.W.Write.contents c.args.output.now) (g.W.Write.contents c.loop-left.output) (answers script))
+    served-many c.loop-turn.invariant.served (omega arith)
+    (λ script. Appends (g.W.Write.contents c.args.output.now) (g.W.Write.contents c.loop-turn.output) (answers script))

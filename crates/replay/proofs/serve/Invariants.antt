@@ -1,20 +1,17 @@
 -- `replay::serve`'s loop: the arrays are as long as they were, and the line fits; what was read was taken in, and what
--- it prints was written. The reads that are left fall.
-use Rattle.replay.specs.Replay.{Ready}
-use Rattle.replay.specs.Script.{stand}
+-- it prints was written.
+use Rattle.std.proofs.Common.{◌-◌}
+use Rattle.replay.specs.Lent.{ReadyIn, stand_in}
+use Rattle.replay.specs.Script.{READS}
 use Rattle.replay.proofs.Whole.{Served}
 use Rattle.replay.proofs.serve.Given as goal
 
-abbrev pub invariant-loop-left : goal.invariant-loop-left
-invariant-loop-left g l =
+abbrev pub invariant-loop-turn : goal.invariant-loop-turn
+invariant-loop-turn g l =
     record {
-      ready : Ready l.held l.kept l.line l.high l.harea l.low l.larea l.text;
+      ready : ReadyIn (record { held = l.held; count = l.count }) l.line l.rows l.text;
       served : Served (g.R.Read.remaining l.initial.input) (g.R.Read.remaining l.input)
-          (g.W.Write.contents l.initial.output) (g.W.Write.contents l.output) l.left
-          (stand l.initial.held l.initial.kept l.initial.line l.initial.high l.initial.harea l.initial.low
-          l.initial.larea)
-          (stand l.held l.kept l.line l.high l.harea l.low l.larea);
+          (g.W.Write.contents l.initial.output) (g.W.Write.contents l.output) (READS - l._turn)
+          (stand_in (record { held = l.initial.held; count = l.initial.count }) l.initial.line l.initial.rows)
+          (stand_in (record { held = l.held; count = l.count }) l.line l.rows);
     }
-
-abbrev pub decreases-loop-left : goal.decreases-loop-left
-decreases-loop-left g l = l.left

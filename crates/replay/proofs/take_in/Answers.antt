@@ -1,5 +1,5 @@
 -- `replay::take_in` meets its contract: what was gathered fits the line, and lies behind the place where it began.
-use Rattle.std.proofs.Common.{arith, ◌∙◌}
+use Rattle.std.proofs.Common.{arith, refl, ◌∙◌}
 use lib.ListN.{drop_of_length-le}
 use Rattle.replay.specs.Script.{stand}
 use Rattle.replay.proofs.Taken.{gather-few, gather-on, turned, taken-none, taken-on, taken_all}
@@ -10,6 +10,7 @@ loop-at-init g c =
     record {
       ready = c.requires;
       taken = taken-none _ c.args.block.now _;
+      same = (refl, (refl, (refl, refl)));
     }
 
 pub heed-requires : goal.heed-requires
@@ -32,9 +33,10 @@ loop-at-preserved g c =
       ready = c.in_ok-p.ensures.ready;
       taken =
           taken-on l.invariant.taken
-          (turned c.args.block.now l.at l.kept l.line c.gather-g.new.line _ c.gather-g.result i.kept
+          (turned c.args.block.now l.at l.count l.line c.gather-g.new.line _ c.gather-g.result i.kept
           (omega (arith, i.kept, i.line)) c.loop-at-test.true c.gather-g.ensures) c.in_ok-p.ensures.stand
           c.in_ok-p.ensures.bytes;
+      same = grind (arith, l.invariant.same, c.heed.ensures.same);
     }
 
 pub loop-at-smaller : goal.loop-at-smaller
@@ -45,4 +47,4 @@ returns g c =
     let l = c.loop-at in
     let e = drop_of_length-le c.args.block.now c.loop-at-test.false in
     let k = taken_all (rw e at l.invariant.taken) in
-    record { ready = l.invariant.ready; stand = k.0; bytes = k.1 }
+    record { ready = l.invariant.ready; stand = k.0; bytes = k.1; same = l.invariant.same }

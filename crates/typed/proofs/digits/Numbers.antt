@@ -1,26 +1,15 @@
 -- The walk over a decimal word, one digit on or at an end, and what a digit is. Assumes nothing.
-use Prim.Native.Nat.{ℕ, ◌+◌, ◌-◌, ◌*◌, ◌<◌, ◌≤◌}
-use mathlib.Core.Bool.{Bool, true, false, true≢false}
-use mathlib.Core.List.{List, [], ◌∷◌}
-use mathlib.Core.Path.{◌≡◌, refl, sym, ◌∙◌}
-use native.Mathlib.Omega.{arith}
-use lib.ListN.{length, get_or, drop, drop_of_length-le}
-use Rattle.choice.specs.Choice.{pick, less, same}
-use Rattle.choice.proofs.Rules.{pick_true, pick-false, less-true, less-false, false-less, said-true, said-false}
+use Rattle.std.proofs.Common.{◌≡◌, ℕ, ◌+◌, ◌-◌, ◌*◌, ◌<◌, ◌≤◌, Bool, true, false, List, [], ◌∷◌, length, get_or, drop, Some, None, refl, arith, drop_of_length-le}
+use Rattle.std.specs.Char.{is_ascii_digit}
+use Rattle.choice.specs.Choice.{pick, less, same, said}
+use Rattle.choice.proofs.Rules.{less-true}
 use Rattle.typed.proofs.words.Walk.{left-cons}
-use Rattle.typed.specs.declared.digits.Number.{Number}
-use Rattle.typed.specs.Digits.{digit, all_digits, value_on, no_number, number, read_on, decimal}
+use Rattle.typed.specs.Digits.{digit, all_digits, value_on, no_number, read_on, decimal}
 
 -- a digit is one of ten characters
-pub digit-is : (c : ℕ) → digit c ≡ true → (48 ≤ c) × (c ≤ 57)
-unfolding digit
-digit-is c e = from (less c 48) (less 57 c) refl refl e
-  where
-    from : (a b : Bool) → less c 48 ≡ a → less 57 c ≡ b → pick a false (pick b false true) ≡ true → (48 ≤ c) × (c ≤ 57)
-    from true b p q e = absurd (true≢false (sym e ∙ pick_true false (pick b false true) refl))
-    from false true p q e =
-        absurd (true≢false (sym e ∙ pick-false false (pick true false true) refl ∙ pick_true false true refl))
-    from false false p q e = (false-less c 48 p, false-less 57 c q)
+pub digit_is : (c : ℕ) → digit c ≡ is_ascii_digit c
+unfolding digit pick less
+digit_is c = grind arith
 
 -- the value does not fall
 pub value_grows : (v : ℕ) (l : List ℕ) → v ≤ value_on v l
@@ -29,71 +18,38 @@ value_grows v [] = omega arith
 value_grows v (c ∷ l) = omega (arith, value_grows (10 * v + (c - 48)) l)
 
 -- over the greatest there is no number
-pub read-over : (most v : ℕ) (l : List ℕ) → most < v → no_number ≡ read_on most v l
-unfolding read_on
-read-over most v l h =
-    rw (
-      less-true {a = most} {b = value_on v l} (omega (arith, value_grows v l)),
-      pick_true no_number (number (value_on v l)) refl,
-    ) (sym (either (all_digits l)))
+pub read_over : (most v : ℕ) (l : List ℕ) → most < v → read_on most v l ≡ None
+unfolding read_on pick
+read_over most v l h =
+    let e : less most (value_on v l) ≡ true = less-true (omega (arith, value_grows v l)) in rw e (either (all_digits l))
   where
-    either : (b : Bool) → pick b no_number no_number ≡ no_number
-    either true = pick_true no_number no_number refl
-    either false = pick-false no_number no_number refl
+    either : (b : Bool) → pick b no_number no_number ≡ None
+    either true = refl
+    either false = refl
 
 -- ---- one character on
 pub read_more : (s : List ℕ) (i most v : ℕ) → i < length s → digit (get_or s i 0) ≡ true
-    → read_on most (10 * v + (get_or s i 0 - 48)) (drop (i + 1) s) ≡ read_on most v (drop i s)
-unfolding read_on all_digits value_on
-read_more s i most v h e =
-    rw (left-cons s i h, said-true refl e, pick_true (all_digits (drop (i + 1) s)) false refl)
+    → read_on most v (drop i s) ≡ read_on most (10 * v + (get_or s i 0 - 48)) (drop (i + 1) s)
+unfolding read_on all_digits value_on pick said
+read_more s i most v h e = rw (left-cons s i h, e)
 
-pub read-not : (s : List ℕ) (i most v : ℕ) → i < length s → digit (get_or s i 0) ≡ false
-    → no_number ≡ read_on most v (drop i s)
-unfolding read_on all_digits value_on
-read-not s i most v h e =
-    rw (left-cons s i h, said-false refl e, pick-false (all_digits (drop (i + 1) s)) false refl)
-    (sym (pick-false _ no_number refl))
+pub read_not : (s : List ℕ) (i most v : ℕ) → i < length s → digit (get_or s i 0) ≡ false
+    → read_on most v (drop i s) ≡ None
+unfolding read_on all_digits value_on pick said
+read_not s i most v h e = rw (left-cons s i h, e)
 
-pub read-last : (s : List ℕ) (i most v : ℕ) → length s ≤ i → v ≤ most → number v ≡ read_on most v (drop i s)
-unfolding read_on all_digits value_on
-read-last s i most v h g =
-    rw (drop_of_length-le s h, pick_true (pick (less most v) no_number (number v)) no_number refl, less-false g)
-    (sym (pick-false no_number (number v) refl))
+pub read_last : (s : List ℕ) (i most v : ℕ) → length s ≤ i → v ≤ most → read_on most v (drop i s) ≡ Some v
+unfolding read_on all_digits value_on pick less
+read_last s i most v h g = rw (drop_of_length-le s h) (grind arith)
 
--- one character on, to a value over the greatest
-pub read_past : (s : List ℕ) (i most v w : ℕ) → i < length s → digit (get_or s i 0) ≡ true
-    → w ≡ 10 * v + (get_or s i 0 - 48) → most < w → no_number ≡ read_on most v (drop i s)
-read_past s i most v w h e f g =
-    read-over most _ (drop (i + 1) s) (rw (← f) g) ∙ read_more s i most v h e
+-- ---- a number is at most the greatest
+read-most : (most v n : ℕ) (l : List ℕ) → read_on most v l ≡ Some n → n ≤ most
+unfolding read_on pick less
+read-most most v n l e = grind arith
 
--- a number is at most the greatest
-none-most : (most : ℕ) → no_number.value ≤ most
-unfolding no_number
-none-most most = omega arith
+pub decimal_most : (l : List ℕ) (most n : ℕ) → decimal l most ≡ Some n → n ≤ most
+unfolding decimal pick same
+decimal_most l most n e = grind (arith, read-most)
 
-pub number-most : (most v : ℕ) → v ≤ most → (number v).value ≤ most
-unfolding number
-number-most most v h = h
-
-read-most : (most v : ℕ) (l : List ℕ) → (read_on most v l).value ≤ most
-unfolding read_on
-read-most most v l = from (all_digits l) (less most (value_on v l)) refl
-  where
-    x : Number
-    x = number (value_on v l)
-
-    from : (a b : Bool) → less most (value_on v l) ≡ b → (pick a (pick b no_number x) no_number).value ≤ most
-    from true true e = rw (pick_true (pick true no_number x) no_number refl, pick_true no_number x refl) (none-most most)
-    from true false e =
-        rw (pick_true (pick false no_number x) no_number refl, pick-false no_number x refl)
-        (number-most most (value_on v l) (false-less most (value_on v l) e))
-    from false b e = rw (pick-false (pick b no_number x) no_number refl) (none-most most)
-
-pub decimal-most : (l : List ℕ) (most : ℕ) → (decimal l most).value ≤ most
-unfolding decimal
-decimal-most l most = from (same (length l) 0)
-  where
-    from : (b : Bool) → (pick b no_number (read_on most 0 l)).value ≤ most
-    from true = rw (pick_true no_number (read_on most 0 l) refl) (none-most most)
-    from false = rw (pick-false no_number (read_on most 0 l) refl) (read-most most 0 l)
+-- what a loop over the digits of a word does
+pub ruleset reading = (digit_is, read_over, read_more, read_not, read_last)

@@ -1,107 +1,89 @@
--- The walk over a list, one character on or at its end, and the bound of an entry's place. Assumes nothing.
-use Prim.Native.Nat.{ℕ, suc, ◌+◌, ◌-◌, ◌<◌, ◌≤◌}
-use mathlib.Core.Bool.{Bool, true, false}
-use mathlib.Core.List.{List, [], ◌∷◌, ◌++◌}
-use mathlib.Core.Path.{◌≡◌, refl, sym, ap, ◌∙◌}
-use native.Mathlib.Omega.{arith}
-use lib.ListN.{length, get_or, take, drop, length-drop, drop_of_length-le}
-use lib.Seq.{take-suc, get_or-drop}
-use Rattle.choice.specs.Choice.{pick, said}
-use Rattle.choice.proofs.Rules.{pick_true, pick-false, same_true, same_false}
-use Rattle.frame.specs.Reading.{part}
-use Rattle.typed.specs.Words.{equal}
-use Rattle.typed.proofs.words.Walk.{left-cons}
-use Rattle.typed.specs.Digits.{decimal, number}
-use Rattle.typed.proofs.digits.Numbers.{number-most, decimal-most}
-use Rattle.typed.specs.Lists.{COMMA, none, greatest, entry, listed, closing, list_on, after}
+-- The entries of a list are its parts between commas, and the bound of an entry's place. Assumes nothing.
+use Rattle.std.proofs.Common.{◌≡◌, ℕ, suc, ◌+◌, ◌<◌, ◌≤◌, Bool, true, false, eqb, List, [], ◌∷◌, ◌++◌, length, drop, Some, refl, sym, ap, ◌∙◌, append_assoc, append-nil, arith, cond, get_or, add-one, drop-cons, drop_of_length-le}
+use Rattle.std.specs.List.{slice_split, onto_first}
+use Rattle.std.proofs.lemmas.List.Splits.{length-slice_split}
+use Rattle.choice.specs.Choice.{pick, same, said}
+use Rattle.typed.proofs.digits.Numbers.{decimal_most}
+use Rattle.typed.specs.Lists.{Listed, greatest, entry, listed, closing, list_on}
 
 -- ---- an entry's place
-pub entry-most : (points : Bool) (e : List ℕ) → (entry points e).value ≤ greatest points
-unfolding entry greatest
-entry-most true e =
-    rw (
-      pick_true (pick (said (equal e none)) (number 63) (decimal e 62)) (decimal e 126) refl,
-      pick_true {A = ℕ} 63 126 refl,
-    ) (from (said (equal e none)))
-  where
-    from : (b : Bool) → (pick b (number 63) (decimal e 62)).value ≤ 63
-    from true = rw (pick_true (number 63) (decimal e 62) refl) (number-most 63 63 (omega arith))
-    from false = rw (pick-false (number 63) (decimal e 62) refl) (omega (arith, decimal-most e 62))
-entry-most false e =
-    rw (
-      pick-false (pick (said (equal e none)) (number 63) (decimal e 62)) (decimal e 126) refl,
-      pick-false {A = ℕ} 63 126 refl,
-    ) (decimal-most e 126)
+pub entry_most : (points : Bool) (e : List ℕ) (n : ℕ) → entry points e ≡ Some n → n ≤ greatest points
+unfolding entry greatest pick said
+entry_most true e n h = grind (arith, decimal_most)
+entry_most false e n h = grind (arith, decimal_most)
 
--- ---- the entry at hand, one character on
-part-on : (s : List ℕ) (from i : ℕ) → from ≤ i → i < length s
-    → part s from (i + 1 - from) ≡ part s from (i - from) ++ (get_or s i 0 ∷ [])
-part-on s from i h g =
-    rw (one_on h)
-    (take-suc (drop from s) (i - from) 0 (simp length-drop (omega arith)) ∙ ap
-    (λ (x : ℕ). take (i - from) (drop from s) ++ (x ∷ []))
-    (get_or-drop from s (i - from) 0 ∙ ap (λ (k : ℕ). get_or s k 0) (back h)))
-  where
-    one_on : from ≤ i → i + 1 - from ≡ suc (i - from)
-    one_on k = omega arith
+-- ---- entries in a row, up to a bad one
+pub closes : Bool → List (List ℕ) → List ℕ → Listed
+closes points [] marks = listed true marks
+closes points (e ∷ l) marks =
+    pick (closing points e marks).good (closes points l (closing points e marks).marks) (closing points e marks)
 
-    back : from ≤ i → from + (i - from) ≡ i
-    back k = omega arith
+-- a list's parts between commas, where the first began with characters before it
+front : List ℕ → List (List ℕ) → List (List ℕ)
+front e [] = e ∷ []
+front e (x ∷ l) = (e ++ x) ∷ l
 
--- ---- what is still to do
-pub after-good : (points : Bool) (s : List ℕ) (i : ℕ) (g : Bool) (from : ℕ) (m : List ℕ) → g ≡ true
-    → after points s i g from m ≡ list_on points (part s from (i + 1 - from)) (drop (i + 1) s) m
-unfolding after
-after-good points s i g from m e = pick_true _ _ e
+parts : List ℕ → List (List ℕ)
+parts l = slice_split (λ c. eqb c 44) l
 
-pub after-bad : (points : Bool) (s : List ℕ) (i : ℕ) (g : Bool) (from : ℕ) (m : List ℕ) → g ≡ false
-    → after points s i g from m ≡ listed false m
-unfolding after
-after-bad points s i g from m e = pick-false _ _ e
+front-on : (e : List ℕ) (c : ℕ) (l : List (List ℕ)) → front e (onto_first c l) ≡ front (e ++ (c ∷ [])) l
+unfolding front
+front-on e c [] = refl
+front-on e c (x ∷ l) = ap (λ r. r ∷ l) (sym (append_assoc e (c ∷ []) x))
 
--- ---- one character on
-pub on-letter : (points : Bool) (s : List ℕ) (from i : ℕ) (m : List ℕ) → from ≤ i → i < length s
-    → (get_or s i 0 ≡ COMMA → ⊥)
-    → after points s i true from m ≡ list_on points (part s from (i - from)) (drop i s) m
-unfolding list_on
-on-letter points s from i m h g e =
-    after-good points s i true from m refl ∙ rw (part-on s from i h g, left-cons s i g, same_false e)
-    (sym (pick-false _ _ refl))
+front-none : (l : List (List ℕ)) → 0 < length l → front [] l ≡ l
+unfolding front
+front-none [] h = absurd (omega arith)
+front-none (x ∷ l) h = refl
 
--- a comma, where the entry before it was closed
-closed_on : (points : Bool) (s e : List ℕ) (i : ℕ) (g : Bool) (m n : List ℕ) → i < length s → get_or s i 0 ≡ COMMA
-    → listed g n ≡ closing points e m
-    → list_on points e (drop i s) m ≡ pick g (list_on points [] (drop (i + 1) s) n) (listed g n)
-unfolding list_on listed
-closed_on points s e i g m n h c k = rw (left-cons s i h, same_true c, ← k) (pick_true _ _ refl)
+-- one entry, and no more
+one-closed : (points : Bool) (e m : List ℕ) → closing points e m ≡ closes points (e ∷ []) m
+unfolding closes closing listed pick
+one-closed points e m = grind arith
 
-pub on-comma : (points : Bool) (s e : List ℕ) (i : ℕ) (g : Bool) (m n : List ℕ) → i < length s → get_or s i 0 ≡ COMMA
-    → g ≡ true → listed g n ≡ closing points e m
-    → after points s i true (i + 1) n ≡ list_on points e (drop i s) m
-on-comma points s e i g m n h c t k =
-    after-good points s i true (i + 1) n refl ∙ rw (none_left i)
-    (sym (closed_on points s e i g m n h c k ∙ pick_true _ _ t))
-  where
-    none_left : (j : ℕ) → j + 1 - (j + 1) ≡ 0
-    none_left j = omega arith
+-- one character on
+step : (b points : Bool) (e : List ℕ) (c : ℕ) (l : List (List ℕ)) (m : List ℕ) (x y : Listed)
+    → x ≡ closes points l (closing points e m).marks → y ≡ closes points (front (e ++ (c ∷ [])) l) m
+    → pick b (pick (closing points e m).good x (closing points e m)) y
+    ≡ closes points (front e (cond b ([] ∷ l) (onto_first c l))) m
+unfolding closes front pick
+step true points e c l m x y p q = rw (append-nil e, p)
+step false points e c l m x y p q = q ∙ ap (λ r. closes points r m) (sym (front-on e c l))
 
-pub on-bad : (points : Bool) (s e : List ℕ) (i : ℕ) (g : Bool) (from : ℕ) (m n : List ℕ) → i < length s
-    → get_or s i 0 ≡ COMMA → g ≡ false → listed g n ≡ closing points e m
-    → after points s i false from n ≡ list_on points e (drop i s) m
-on-bad points s e i g from m n h c t k =
-    after-bad points s i false from n refl ∙ ap (λ (b : Bool). listed b n) (sym t) ∙ sym
-    (closed_on points s e i g m n h c k ∙ pick-false _ _ t)
+some : (l : List ℕ) → 0 < length (parts l)
+unfolding parts
+some l = omega (arith, length-slice_split (λ c. eqb c 44) l)
 
-pub on-last : (points : Bool) (s e : List ℕ) (i : ℕ) (m : List ℕ) → length s ≤ i
-    → closing points e m ≡ list_on points e (drop i s) m
-unfolding list_on
-on-last points s e i m h = rw (drop_of_length-le s h)
+list-parts : (points : Bool) (e l m : List ℕ) → list_on points e l m ≡ closes points (front e (parts l)) m
+unfolding list_on front parts same
+list-parts points e [] m = rw (append-nil e) (one-closed points e m)
+list-parts points e (c ∷ l) m =
+    step (eqb c 44) points e c (parts l) m _ _
+    (list-parts points [] l _ ∙ ap (λ p. closes points p (closing points e m).marks) (front-none (parts l) (some l)))
+    (list-parts points (e ++ (c ∷ [])) l m)
 
--- ---- the greatest places
-pub greatest-master : greatest false ≡ 126
-unfolding greatest
-greatest-master = pick-false {A = ℕ} 63 126 refl
+pub list_parts : (points : Bool) (l m : List ℕ) → list_on points [] l m ≡ closes points (slice_split (λ c. eqb c 44) l) m
+unfolding parts
+list_parts points l m = list-parts points [] l m ∙ ap (λ p. closes points p m) (front-none (parts l) (some l))
 
-pub greatest-point : greatest true ≡ 63
-unfolding greatest
-greatest-point = pick_true {A = ℕ} 63 126 refl
+-- ---- one entry on, of the entries from one on, and no more
+parts-on : (l : List (List ℕ)) (i : ℕ) (e : List ℕ) → (i < length l) × (e ≡ get_or l i e)
+    → drop i l ≡ e ∷ drop (i + 1) l
+parts-on l i e h = rw (add-one i) (drop-cons l i e h.0 ∙ ap (λ x. x ∷ drop (suc i) l) (sym h.1))
+
+pub closes_good : (points g : Bool) (e : List ℕ) (l : List (List ℕ)) (i j : ℕ) (m n : List ℕ) (x : Listed)
+    → (i < length l) × (e ≡ get_or l i e) → j ≡ i + 1 → g ≡ true → listed g n ≡ closing points e m
+    → closes points (drop i l) m ≡ x → closes points (drop j l) n ≡ x
+unfolding closes listed pick
+closes_good points g e l i j m n x h k t s f = rw k (rw (parts-on l i e h, ← s, t) at f)
+
+pub closes_bad : (points g : Bool) (e : List ℕ) (l : List (List ℕ)) (i : ℕ) (m n : List ℕ) (x : Listed)
+    → (i < length l) × (e ≡ get_or l i e) → g ≡ false → listed g n ≡ closing points e m
+    → closes points (drop i l) m ≡ x → listed false n ≡ x
+unfolding closes listed pick
+closes_bad points g e l i m n x h t s f = rw (parts-on l i e h, ← s, t) at f
+
+pub closes_none : (points : Bool) (l : List (List ℕ)) (i : ℕ) (m : List ℕ) (x : Listed) → i ≡ length l
+    → closes points (drop i l) m ≡ x → listed true m ≡ x
+unfolding closes
+closes_none points l i m x h f = let q : length l ≤ i = omega arith in rw (drop_of_length-le l q) at f

@@ -1,30 +1,28 @@
 -- The walk over the numbers of a line, one word on or at an end. Assumes nothing.
-use Prim.Native.Nat.{ℕ, zero, suc, ◌+◌, ◌-◌}
-use mathlib.Core.Bool.{true, false}
-use mathlib.Core.List.{List}
-use mathlib.Core.Path.{◌≡◌, refl, sym, ap, ◌∙◌}
-use native.Mathlib.Omega.{arith}
-use Rattle.choice.proofs.Rules.{pick_true, pick-false, said-true, said-false}
-use Rattle.typed.specs.Words.{word}
+use Rattle.std.proofs.Common.{◌≡◌, ℕ, suc, ◌+◌, ◌-◌, ◌<◌, ◌≤◌, true, false, None, is_some, List, refl, arith}
+use Rattle.choice.specs.Choice.{pick, said}
+use Rattle.typed.specs.Words.{word, equal}
 use Rattle.typed.specs.Digits.{decimal}
-use Rattle.typed.specs.Places.{numbers}
+use Rattle.typed.specs.Places.{numbers, w-sda, w-sdn, w-srd, w-status, w-ident, w-lsap, unserved, service}
 
-pub numbers_more : (l : List ℕ) (k n most : ℕ) → (n ≡ 0 → ⊥) → (decimal (word l k) most).good ≡ true
-    → numbers l (k + 1) (n - 1) most ≡ numbers l k n most
-unfolding numbers
-numbers_more l k zero most h e = absurd (h refl)
-numbers_more l k (suc n) most h e =
-    ap (λ (m : ℕ). numbers l (k + 1) m most) (one_less n) ∙ sym (pick_true _ _ (said-true refl e))
+pub numbers_more : (l : List ℕ) (i e most : ℕ) → i < e
+    → numbers l i (e - i) most
+    ≡ pick (is_some (decimal (word l i) most)) (numbers l (i + 1) (e - (i + 1)) most) false
+unfolding numbers said
+numbers_more l i e most h = rw less
   where
-    one_less : (m : ℕ) → suc m - 1 ≡ m
-    one_less m = omega arith
+    less : e - i ≡ suc (e - (i + 1))
+    less = omega arith
 
-pub numbers-not : (l : List ℕ) (k n most : ℕ) → (n ≡ 0 → ⊥) → (decimal (word l k) most).good ≡ false
-    → false ≡ numbers l k n most
+pub numbers_none : (l : List ℕ) (i e most : ℕ) → e ≤ i → numbers l i (e - i) most ≡ true
 unfolding numbers
-numbers-not l k zero most h e = absurd (h refl)
-numbers-not l k (suc n) most h e = sym (pick-false _ _ (said-false refl e))
+numbers_none l i e most h = rw less
+  where
+    less : e - i ≡ 0
+    less = omega arith
 
-pub numbers-last : (l : List ℕ) (k n most : ℕ) → n ≡ 0 → true ≡ numbers l k n most
-unfolding numbers
-numbers-last l k n most h = rw h
+-- a word that is none of the services
+pub unserved_none : (w : List ℕ) → equal w w-sda ≡ false → equal w w-sdn ≡ false → equal w w-srd ≡ false
+    → equal w w-status ≡ false → equal w w-ident ≡ false → equal w w-lsap ≡ false → None ≡ service w
+unfolding service unserved pick said
+unserved_none w a b c d e f = rw (a, b, c, d, e, f) refl

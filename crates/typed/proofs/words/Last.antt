@@ -1,15 +1,15 @@
 -- A line has no word behind its last: word k is empty where the line has at most k words. Assumes nothing.
-use Prim.Native.Nat.{ℕ, zero, suc, ◌+◌, ◌≤◌}
+use Prim.Native.Nat.{ℕ, zero, suc, ◌≤◌}
 use mathlib.Core.Bool.{Bool, true, false}
 use mathlib.Core.List.{List, [], ◌∷◌}
-use mathlib.Core.Path.{◌≡◌, refl, sym, ap, ◌∙◌}
+use mathlib.Core.Path.{◌≡◌, refl, sym, ◌∙◌}
 use native.Mathlib.Nat.{zero-add}
 use native.Mathlib.Omega.{arith}
 use lib.ListN.{take, drop}
-use lib.Seq.{drop-drop}
 use Rattle.choice.specs.Choice.{pick, same}
-use Rattle.typed.specs.Words.{SPACE, spaces, letters, begins, ends, ahead, begin_of, begun, words_behind, words}
+use Rattle.typed.specs.Words.{SPACE, spaces, letters, begins, ends, behind, ahead, begin_of, begun, words_behind, words}
 use Rattle.typed.specs.Words.{word}
+use Rattle.typed.proofs.words.Walk.{next-left}
 
 -- ---- a list whose first character is a space, and one whose first is a letter
 record Spaced (c : ℕ) (r : List ℕ) : Type 0 where
@@ -97,18 +97,9 @@ none-empty (c ∷ r) s h =
     (λ t. absurd (omega (arith, rw t.words-one at h)))
 
 -- ---- the words ahead
--- what is left of a line where the word behind the one at a place begins
-next-left : (l : List ℕ) (at : ℕ) → drop (begins l (ends l at)) l
-    ≡ drop (spaces (drop (letters (drop at l)) (drop at l))) (drop (letters (drop at l)) (drop at l))
-unfolding begins ends
-next-left l at =
-    let e = drop-drop (letters (drop at l)) at l in
-    sym (drop-drop (spaces (drop (at + letters (drop at l)) l)) (at + letters (drop at l)) l)
-    ∙ ap (λ (r : List ℕ). drop (spaces r) r) (sym e)
-
 ahead-over : (k : ℕ) (l : List ℕ) (at : ℕ) → spaces (drop at l) ≡ 0 → words_behind true (drop at l) ≤ k
     → drop (ahead l at k) l ≡ []
-unfolding ahead
+unfolding ahead behind
 ahead-over zero l at s h = none-empty _ s h
 ahead-over (suc k) l at s h =
     let e = next-left l at in

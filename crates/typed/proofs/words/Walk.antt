@@ -1,106 +1,102 @@
--- The walks over a line, one character on or at an end: where a word begins and ends, how many begin, and whether two
--- words are the same. Assumes nothing.
-use Prim.Native.Nat.{ℕ, zero, suc, ◌+◌, ◌-◌, ◌<◌, ◌≤◌}
-use mathlib.Core.Bool.{Bool, true, false}
-use mathlib.Core.List.{List, [], ◌∷◌}
-use mathlib.Core.Path.{◌≡◌, refl, sym, ap}
-use native.Mathlib.Omega.{arith}
-use native.Mathlib.Nat.{add-sub_cancel_left}
-use native.Mathlib.Numerals.{add-one}
-use lib.ListN.{length, get_or, drop, drop_of_length-le}
-use lib.Seq.{drop-cons}
+-- What the iterators over a line count: the spaces and the letters that it begins with, the words that begin in it; what
+-- is left of it ahead of a word; and whether two words are the same. Assumes nothing.
+use Rattle.std.proofs.Common.{◌≡◌, ℕ, zero, suc, ◌+◌, ◌-◌, ◌<◌, ◌≤◌, Bool, true, not, ◌&&◌, eqb, List, [], ◌∷◌, length, get_or, take, drop, length-drop, refl, sym, ap, ◌∙◌, add-one, arith, drop-cons, drop_of_length-le}
+use Rattle.std.proofs.Math.Seq.{drop-drop, take-length}
+use Rattle.std.specs.List.{prefix_len}
+use Rattle.std.specs.Cmp.Lexicographic.{pointwise}
 use Rattle.choice.specs.Choice.{pick, same}
-use Rattle.choice.proofs.Rules.{pick_true, pick-false, same_true, same_false}
-use Rattle.frame.specs.Reading.{part}
-use Rattle.typed.specs.Words.{SPACE, spaces, letters, begins, ends, ahead, begin_of, begun, words_behind, word}
-use Rattle.typed.specs.Words.{equal}
+use Rattle.typed.specs.Words.{SPACE, spaces, letters, begins, ends, behind, ahead, begin_of, begun, words_behind, word, equal}
 
 -- what is left of a line, from a place inside it
 pub left-cons : (l : List ℕ) (i : ℕ) → i < length l → drop i l ≡ get_or l i 0 ∷ drop (i + 1) l
 left-cons l i h = rw (add-one i) (drop-cons l i 0 h)
 
--- ---- where a word begins
-pub begins-more : (l : List ℕ) (i : ℕ) → i < length l → get_or l i 0 ≡ SPACE → begins l (i + 1) ≡ begins l i
-unfolding begins spaces
-begins-more l i h e = rw (left-cons l i h, same_true e, pick_true (suc (spaces (drop (i + 1) l))) 0 refl) (omega arith)
+-- ---- the spaces and the letters that a list begins with
+pub spaces_counted : (l : List ℕ) → spaces l ≡ prefix_len (λ c. eqb c 32) l
+unfolding spaces pick same
+spaces_counted [] = refl
+spaces_counted (c ∷ l) = grind (arith, spaces_counted l)
 
-pub begins-here : (l : List ℕ) (i : ℕ) → i < length l → (get_or l i 0 ≡ SPACE → ⊥) → i ≡ begins l i
-unfolding begins spaces
-begins-here l i h e =
-    rw (left-cons l i h, same_false e, pick-false (suc (spaces (drop (i + 1) l))) 0 refl) (omega arith)
+pub letters_counted : (l : List ℕ) → letters l ≡ prefix_len (λ c. not (eqb c 32)) l
+unfolding letters pick same
+letters_counted [] = refl
+letters_counted (c ∷ l) = grind (arith, letters_counted l)
 
-pub begins-last : (l : List ℕ) (i : ℕ) → length l ≤ i → i ≡ begins l i
-unfolding begins spaces
-begins-last l i h = rw (drop_of_length-le l h) (omega arith)
-
--- ---- where a word ends
-pub ends_more : (l : List ℕ) (i : ℕ) → i < length l → (get_or l i 0 ≡ SPACE → ⊥) → ends l (i + 1) ≡ ends l i
-unfolding ends letters
-ends_more l i h e = rw (left-cons l i h, same_false e, pick-false 0 (suc (letters (drop (i + 1) l))) refl) (omega arith)
-
-pub ends-here : (l : List ℕ) (i : ℕ) → i < length l → get_or l i 0 ≡ SPACE → i ≡ ends l i
-unfolding ends letters
-ends-here l i h e = rw (left-cons l i h, same_true e, pick_true 0 (suc (letters (drop (i + 1) l))) refl) (omega arith)
-
-pub ends_last : (l : List ℕ) (i : ℕ) → length l ≤ i → i ≡ ends l i
-unfolding ends letters
-ends_last l i h = rw (drop_of_length-le l h) (omega arith)
+-- what is left behind them
+pub left_all : (l : List ℕ) (n : ℕ) → take (length l - n) (drop n l) ≡ drop n l
+left_all l n = rw (← length-drop n l) (take-length (drop n l))
 
 -- ---- the words ahead
-pub ahead_more : (l : List ℕ) (at k : ℕ) → (k ≡ 0 → ⊥) → ahead l (begins l (ends l at)) (k - 1) ≡ ahead l at k
-unfolding ahead
-ahead_more l at zero h = absurd (h refl)
-ahead_more l at (suc k) h = ap (ahead l (begins l (ends l at))) (one_less k)
-  where
-    one_less : (n : ℕ) → suc n - 1 ≡ n
-    one_less n = omega arith
+-- what is left where the word begins that is k words ahead
+pub rest : List ℕ → ℕ → List ℕ
+rest r zero = r
+rest r (suc k) = rest (behind r) k
 
-pub ahead_none : (l : List ℕ) (at k : ℕ) → k ≡ 0 → at ≡ ahead l at k
-unfolding ahead
-ahead_none l at k h = rw h
+pub next-left : (l : List ℕ) (at : ℕ) → drop (begins l (ends l at)) l ≡ behind (drop at l)
+unfolding begins ends behind
+next-left l at =
+    let e = drop-drop (letters (drop at l)) at l in
+    sym (drop-drop (spaces (drop (at + letters (drop at l)) l)) (at + letters (drop at l)) l)
+    ∙ ap (λ (r : List ℕ). drop (spaces r) r) (sym e)
+
+rest-ahead : (k : ℕ) (l : List ℕ) (at : ℕ) → drop (ahead l at k) l ≡ rest (drop at l) k
+unfolding ahead rest
+rest-ahead zero l at = refl
+rest-ahead (suc k) l at = rest-ahead k l (begins l (ends l at)) ∙ ap (λ r. rest r k) (next-left l at)
+
+pub rest_more : (r : List ℕ) (k i : ℕ) → i < k
+    → rest (behind r) (k - (i + 1)) ≡ rest r (k - i)
+unfolding rest
+rest_more r k i h = rw less
+  where
+    less : k - i ≡ suc (k - (i + 1))
+    less = omega arith
+
+pub rest_none : (r : List ℕ) (k i : ℕ) → k ≤ i → rest r (k - i) ≡ r
+unfolding rest
+rest_none r k i h = let e : k - i ≡ 0 = omega arith in rw e
+
+pub word_left : (l : List ℕ) (k : ℕ)
+    → word l k ≡ take (letters (rest (drop (spaces l) l) k)) (rest (drop (spaces l) l) k)
+unfolding word begin_of begins
+word_left l k =
+    let e : 0 + spaces l ≡ spaces l = omega arith in rw e (ap (λ r. take (letters r) r) (rest-ahead k l (spaces l)))
 
 -- ---- how many words begin
 pub behind_more : (l : List ℕ) (i : ℕ) (space : Bool) → i < length l
-    → begun space (get_or l i 0) + words_behind (same (get_or l i 0) SPACE) (drop (i + 1) l) ≡ words_behind space (drop i l)
+    → words_behind space (drop i l) ≡ begun space (get_or l i 0) + words_behind (same (get_or l i 0) SPACE) (drop (i + 1) l)
 unfolding words_behind
 behind_more l i space h = rw (left-cons l i h)
 
-pub behind-last : (l : List ℕ) (i : ℕ) (space : Bool) → length l ≤ i → words_behind space (drop i l) ≡ 0
+pub behind_last : (l : List ℕ) (i : ℕ) (space : Bool) → length l ≤ i → words_behind space (drop i l) ≡ 0
 unfolding words_behind
-behind-last l i space h = rw (drop_of_length-le l h)
+behind_last l i space h = rw (drop_of_length-le l h)
 
--- ---- whether two words are the same
-pub equal-more : (l m : List ℕ) (i : ℕ) → i < length l → i < length m → get_or l i 0 ≡ get_or m i 0
-    → equal (drop (i + 1) l) (drop (i + 1) m) ≡ equal (drop i l) (drop i m)
-unfolding equal
-equal-more l m i h g e =
-    rw (left-cons l i h, left-cons m i g, same_true e)
-    (sym (pick_true (equal (drop (i + 1) l) (drop (i + 1) m)) false refl))
+-- ---- whether two lists are the same
+pub equal_pointwise : (l m : List ℕ) → pointwise eqb l m ≡ equal l m
+unfolding equal pick same
+equal_pointwise [] [] = refl
+equal_pointwise [] (y ∷ m) = refl
+equal_pointwise (x ∷ l) [] = refl
+equal_pointwise (x ∷ l) (y ∷ m) = grind (arith, equal_pointwise l m)
 
-pub equal-not : (l m : List ℕ) (i : ℕ) → i < length l → i < length m → (get_or l i 0 ≡ get_or m i 0 → ⊥)
-    → false ≡ equal (drop i l) (drop i m)
-unfolding equal
-equal-not l m i h g e =
-    rw (left-cons l i h, left-cons m i g, same_false e)
-    (sym (pick-false (equal (drop (i + 1) l) (drop (i + 1) m)) false refl))
+-- a word that is compared octet by octet
+abbrev pub bytes : List ℕ → ℕ → List ℕ → Bool
+bytes w i [] = true
+bytes w i (c ∷ t) = eqb (get_or w i 0) c && bytes w (suc i) t
 
-pub equal-last : (l m : List ℕ) (i : ℕ) → length l ≤ i → length m ≤ i → true ≡ equal (drop i l) (drop i m)
-unfolding equal
-equal-last l m i h g = rw (drop_of_length-le l h, drop_of_length-le m g)
+bytes-on : (x : ℕ) (w : List ℕ) (i : ℕ) (t : List ℕ) → bytes (x ∷ w) (suc i) t ≡ bytes w i t
+bytes-on x w i [] = refl
+bytes-on x w i (c ∷ t) = ap (λ b. eqb (get_or w i 0) c && b) (bytes-on x w (suc i) t)
 
-pub equal-length : (l m : List ℕ) → (length l ≡ length m → ⊥) → false ≡ equal l m
-unfolding equal
-equal-length [] [] n = absurd (n refl)
-equal-length [] (y ∷ m) n = refl
-equal-length (x ∷ l) [] n = refl
-equal-length (x ∷ l) (y ∷ m) n =
-    rw (← equal-length l m (λ e. n (ap suc e))) (pick-either (same x y))
-  where
-    pick-either : (b : Bool) → false ≡ pick b false false
-    pick-either true = sym (pick_true false false refl)
-    pick-either false = sym (pick-false false false refl)
+pub equal_reads : (w t : List ℕ) → equal w t ≡ (eqb (length w) (length t) && bytes w 0 t)
+unfolding equal pick same
+equal_reads [] [] = refl
+equal_reads [] (y ∷ t) = grind arith
+equal_reads (x ∷ w) [] = grind arith
+equal_reads (x ∷ w) (y ∷ t) = grind (arith, equal_reads w t, bytes-on x w 0 t)
 
--- ---- a word as a part of its line
-pub word-part : (l : List ℕ) (k at end : ℕ) → at ≡ begin_of l k → end ≡ ends l at → part l at (end - at) ≡ word l k
-unfolding word ends
-word-part l k at end e g = rw (g, add-sub_cancel_left at (letters (drop at l)), e)
+-- what a loop over the words of a line, and one over its characters, does
+pub ruleset words_steps = (rest_more, rest_none, letters_counted, word_left)
+
+pub ruleset begun_steps = (behind_more, behind_last)

@@ -5,6 +5,7 @@ use mathlib.Core.List.{List, [], ◌∷◌}
 use mathlib.Core.Path.{◌≡◌, refl, ap, ◌∙◌}
 use native.Mathlib.Omega.{arith}
 use lib.ListN.{length, take, drop, length-drop, length-take}
+use Rattle.std.specs.Option.{unwrap_or}
 use Rattle.choice.specs.Choice.{pick, less, said}
 use Rattle.choice.proofs.Rules.{less-false}
 use Rattle.laid.proofs.Laws.{length-laid}
@@ -27,8 +28,8 @@ octets-count (a ∷ (b ∷ l)) = ap suc (octets-count l) ∙ omega arith
 
 -- what was read, and that it lies in the output
 read_of : (w out : List ℕ) (b : Bool) → length w ≤ 4096 → 2048 ≤ length out → said (is_octets w) ≡ b
-    → (take (hex w (length out)).count (hex_left w out) ≡ pick (said (is_octets w)) (octets w) [])
-    × ((hex w (length out)).count ≤ length (hex_left w out))
+    → (take (unwrap_or (hex w (length out)) 0) (hex_left w out) ≡ pick (said (is_octets w)) (octets w) [])
+    × (unwrap_or (hex w (length out)) 0 ≤ length (hex_left w out))
 unfolding hex hex_left pick
 read_of w out true h n e =
     let f : less (length out) (length w / 2) ≡ false = less-false (omega arith) in
@@ -39,8 +40,8 @@ read_of w out true h n e =
     )
 read_of w out false h n e = rw e (refl, omega arith)
 
-pub octets-read : (l : List ℕ) (k : ℕ) (out : List ℕ) → length l ≤ 4096 → 2048 ≤ length out
-    → (take (hex (word l k) (length out)).count (hex_left (word l k) out)
+pub octets_read : (l : List ℕ) (k : ℕ) (out : List ℕ) → length l ≤ 4096 → 2048 ≤ length out
+    → (take (unwrap_or (hex (word l k) (length out)) 0) (hex_left (word l k) out)
     ≡ pick (said (is_octets (word l k))) (octets (word l k)) [])
-    × ((hex (word l k) (length out)).count ≤ length (hex_left (word l k) out))
-octets-read l k out h n = read_of (word l k) out (said (is_octets (word l k))) (omega (arith, word-short l k)) n refl
+    × (unwrap_or (hex (word l k) (length out)) 0 ≤ length (hex_left (word l k) out))
+octets_read l k out h n = read_of (word l k) out (said (is_octets (word l k))) (omega (arith, word-short l k)) n refl

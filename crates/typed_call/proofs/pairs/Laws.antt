@@ -6,6 +6,8 @@ use mathlib.Core.Bool.{Bool, true, false}
 use mathlib.Core.List.{List, [], ◌∷◌}
 use mathlib.Core.Logic.{◌⊎◌, inl, inr, ⊎_elim}
 use mathlib.Core.Path.{◌≡◌, refl, sym, ap, ◌∙◌}
+use Rattle.std.proofs.Common.{is_some}
+use Rattle.std.specs.Option.{unwrap_or}
 use Rattle.choice.specs.Choice.{pick, same, said}
 use Rattle.choice.proofs.Rules.{pick_true, pick-false, said-true, said-false, is_said, same_true, true_same, both_true}
 use Rattle.times.specs.Times.{standard}
@@ -29,7 +31,7 @@ base_start l =
 unfoldable pub base_submit : List ℕ → Bool
 base_submit l =
     pick (said (named l w-submit Table.SUBMITWORDS))
-    (pick (said (queue (word l Table.QUEUE)).good) (is_request l) false) false
+    (pick (said (is_some (queue (word l Table.QUEUE)))) (is_request l) false) false
 
 -- ---- a pair where the line has no more words is left out
 abbrev out : ℕ → ℕ → Pair
@@ -58,12 +60,11 @@ unfolding tsdi_of
 tsdi-out l h = left_out l Table.STARTWORDS _ _ LONG _ h
 
 start-ends : (l : List ℕ) (n : ℕ) → tsdi_of l ≡ out Table.STARTWORDS n → start_pairs l ≡ same (words l) Table.STARTWORDS
-unfolding start_pairs number
+unfolding start_pairs
 start-ends l n e = rw e (pick_true _ _ (said-true refl refl))
 
-value_out : {p : Pair} (k n : ℕ) → p ≡ out k n → p.number.value ≡ n
-unfolding number
-value_out k n e = ap (λ (p : Pair). p.number.value) e
+value_out : {p : Pair} (k n : ℕ) → p ≡ out k n → unwrap_or p.number 0 ≡ n
+value_out k n e = ap (λ (p : Pair). unwrap_or p.number 0) e
 
 pub as_before : (l : List ℕ) → words l ≤ Table.STARTWORDS
     → (is_start l ≡ base_start l) × ((settings_of l).tsdi.0 ≡ standard.tsdi.0)
@@ -82,7 +83,7 @@ unfolding limit_of
 limit-out l h = rw (ref-out l h) (left_out l Table.SUBMITWORDS _ _ _ 0 h)
 
 submit-ends : (l : List ℕ) → words l ≤ Table.SUBMITWORDS → submit_pairs l ≡ same (words l) Table.SUBMITWORDS
-unfolding submit_pairs number
+unfolding submit_pairs
 submit-ends l h =
     rw (ref-out l h, limit-out l h)
     (pick_true _ _ (said-true refl refl) ∙ pick_true _ _ (said-true refl refl))

@@ -3,7 +3,7 @@ use mathlib.Core.List.{[], ◌∷◌}
 use mathlib.Core.Path.{◌≡◌, refl}
 use Rattle.choice.specs.Choice.{pick, less, same, said}
 use Rattle.typed.specs.Words.{spaces, letters, begins, ends, ahead, begin_of, begun, words_behind, word, equal}
-use Rattle.typed.specs.Digits.{digit, all_digits, value_on, no_number, number, read_on, decimal, nibble, all_hex, dash}
+use Rattle.typed.specs.Digits.{digit, all_digits, value_on, read_on, decimal, nibble, all_hex, dash}
 use Rattle.typed.specs.Digits.{is_octets}
 use Rattle.typed.specs.Lists.{entry, listed, closing, list_on, list}
 use Rattle.typed.specs.Places.{either, queue, room, unserved, service, access, called, named, numbers, pair}
@@ -47,7 +47,7 @@ pub lines : (call_of (115 ∷ (116 ∷ (97 ∷ (114 ∷ (116 ∷ (32 ∷ (50 ∷
     [])))))))))))))))))))))))))))))))))))))))))))) ≡ Unknown)
     × (call_of (32 ∷ (32 ∷ (32 ∷ []))) ≡ Unknown)
 unfolding pick less same said spaces letters begins ends ahead begin_of begun words_behind word equal digit
-    all_digits value_on no_number number read_on decimal nibble all_hex dash is_octets entry listed closing list_on list
+    all_digits value_on read_on decimal nibble all_hex dash is_octets entry listed closing list_on list
     either queue room unserved service access called named numbers pair is_masters is_points standard tsdi_of start_pairs
     ref_of limit_of submit_pairs is_site is_start is_pointed is_request is_submit is_heard is_frame is_clocked is_collect plain_of clocked_of call_of
 lines = (refl, refl, refl, refl, refl, refl, refl, refl, refl, refl)
@@ -64,7 +64,7 @@ pub pairs : (call_of (115 ∷ (116 ∷ (97 ∷ (114 ∷ (116 ∷ (32 ∷ (50 ∷
     × (call_of (115 ∷ (116 ∷ (97 ∷ (114 ∷ (116 ∷ (32 ∷ (50 ∷ (48 ∷ (32 ∷ (48 ∷ (32 ∷ (50 ∷ (48 ∷ (32 ∷ (52 ∷ (48 ∷ (48 ∷ (32 ∷ (49 ∷ (32 ∷ (49 ∷ (48 ∷ (48 ∷ (48 ∷ (48 ∷ (32 ∷ (49 ∷ (32 ∷ (50 ∷ (32 ∷ (50 ∷ (44 ∷ (53 ∷ (32 ∷ (110 ∷ (111 ∷ (110 ∷ (101 ∷ (32 ∷ (52 ∷ (32 ∷ (52 ∷ (32 ∷ (116 ∷ (115 ∷ (101 ∷ (116 ∷ (32 ∷ (50 ∷ (48 ∷ [])))))))))))))))))))))))))))))))))))))))))))))))))) ≡ Unknown)
     × (call_of (115 ∷ (116 ∷ (97 ∷ (114 ∷ (116 ∷ (32 ∷ (50 ∷ (48 ∷ (32 ∷ (48 ∷ (32 ∷ (50 ∷ (48 ∷ (32 ∷ (52 ∷ (48 ∷ (48 ∷ (32 ∷ (49 ∷ (32 ∷ (49 ∷ (48 ∷ (48 ∷ (48 ∷ (48 ∷ (32 ∷ (49 ∷ (32 ∷ (50 ∷ (32 ∷ (50 ∷ (44 ∷ (53 ∷ (32 ∷ (110 ∷ (111 ∷ (110 ∷ (101 ∷ (32 ∷ (52 ∷ (32 ∷ (52 ∷ (32 ∷ (116 ∷ (115 ∷ (100 ∷ (105 ∷ (32 ∷ (52 ∷ (50 ∷ (57 ∷ (52 ∷ (57 ∷ (54 ∷ (55 ∷ (50 ∷ (57 ∷ (54 ∷ [])))))))))))))))))))))))))))))))))))))))))))))))))))))))))) ≡ Unknown)
 unfolding pick less same said spaces letters begins ends ahead begin_of begun words_behind word equal digit
-    all_digits value_on no_number number read_on decimal nibble all_hex dash is_octets entry listed closing list_on list
+    all_digits value_on read_on decimal nibble all_hex dash is_octets entry listed closing list_on list
     either queue room unserved service access called named numbers pair is_masters is_points standard tsdi_of start_pairs
     ref_of limit_of submit_pairs is_site is_start is_pointed is_request is_submit is_heard is_frame is_clocked is_collect plain_of clocked_of call_of
 pairs = (refl, refl, refl, refl, refl)
@@ -85,7 +85,7 @@ pub submits : (call_of (115 ∷ (117 ∷ (98 ∷ (109 ∷ (105 ∷ (116 ∷ (32 
     × (call_of (115 ∷ (117 ∷ (98 ∷ (109 ∷ (105 ∷ (116 ∷ (32 ∷ (104 ∷ (105 ∷ (103 ∷ (104 ∷ (32 ∷ (115 ∷ (114 ∷ (100 ∷ (32 ∷ (55 ∷ (32 ∷ (45 ∷ (32 ∷ (45 ∷ (32 ∷ (45 ∷ (32 ∷ (108 ∷ (105 ∷ (109 ∷ (105 ∷ (116 ∷ (32 ∷ (50 ∷ (53 ∷ (54 ∷ []))))))))))))))))))))))))))))))))) ≡ Unknown)
     × (call_of (115 ∷ (117 ∷ (98 ∷ (109 ∷ (105 ∷ (116 ∷ (32 ∷ (104 ∷ (105 ∷ (103 ∷ (104 ∷ (32 ∷ (115 ∷ (114 ∷ (100 ∷ (32 ∷ (55 ∷ (32 ∷ (45 ∷ (32 ∷ (45 ∷ (32 ∷ (45 ∷ (32 ∷ (114 ∷ (101 ∷ (102 ∷ []))))))))))))))))))))))))))) ≡ Unknown)
 unfolding pick less same said spaces letters begins ends ahead begin_of begun words_behind word equal digit
-    all_digits value_on no_number number read_on decimal nibble all_hex dash is_octets entry listed closing list_on list
+    all_digits value_on read_on decimal nibble all_hex dash is_octets entry listed closing list_on list
     either queue room unserved service access called named numbers pair is_masters is_points standard tsdi_of start_pairs
     ref_of limit_of submit_pairs is_site is_start is_pointed is_request is_submit is_heard is_frame is_clocked is_collect plain_of clocked_of call_of
 submits = (refl, refl, refl, refl, refl, refl, refl)

@@ -8,9 +8,5 @@ use Rattle.printed_lines.proofs.shown.joined.Given as goal
 
 abbrev pub invariant-loop-a : goal.invariant-loop-a
 invariant-loop-a l =
-    (l.a ≤ 127)
-    × (l.w ≤ l.at + 4 * l.a)
+    (l.w ≤ l.at + 4 * l.a)
     × Comes l.initial.out l.at (joined true 127 0 l.masters) l.w (joined l.first (127 - l.a) l.a l.masters) l.out
-
-abbrev pub decreases-loop-a : goal.decreases-loop-a
-decreases-loop-a l = 127 - l.a

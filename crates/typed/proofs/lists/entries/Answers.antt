@@ -1,31 +1,27 @@
--- `typed::lists::entries` meets its contract. The loop's invariant: the set so far, with the entry at hand and the
--- rest, is the set.
-use mathlib.Core.Path.{sym, ◌∙◌}
-use native.Mathlib.Omega.{arith}
-use borrow.Author.Tests.{not-true, not-false}
-use Rattle.typed.proofs.lists.Commas.{after-good, after-bad, on-last}
+-- `typed::lists::entries` meets its contract: the item of each turn is the next part between commas.
+use Rattle.std.proofs.Common.{eqb, refl, sym, ◌∙◌, rules, tests}
+use Rattle.std.proofs.lemmas.List.{length_push}
+use Rattle.std.proofs.lemmas.Iterator.Consumers.{YieldsList-turn, YieldsList-end}
+use Rattle.std.proofs.lemmas.Iterator.Splits.{YieldsList-from_slice_split}
+use Rattle.typed.proofs.lists.Commas.{list_parts, closes_good, closes_bad, closes_none}
 use Rattle.typed.proofs.lists.entries.Goals as goal
 
-pub returns-then-not-t : goal.returns-then-not-t
-returns-then-not-t c =
-    let a = c.args in
-    let l = c.loop-i in
-    sym (after-bad a.points a.s.now l.i _ _ _ (not-true _ c.if-not-t.true)) ∙ c.heed-t.ensures.out_after ∙
-    l.invariant.3
+pub loop-e-init : goal.loop-e-init
+loop-e-init c = (refl, sym (list_parts _ _ _))
 
-pub loop-i-preserved : goal.loop-i-preserved
-loop-i-preserved c =
-    let a = c.args in
-    let l = c.loop-i in (
-      c.heed-t.ensures.from_bound,
-      omega arith,
-      c.heed-t.auto.out ∙ l.invariant.2,
-      sym (after-good a.points a.s.now l.i _ _ _ (not-false _ c.if-not-t.false)) ∙ c.heed-t.ensures.out_after ∙ l.invariant.3,
+pub returns-then-not-close : goal.returns-then-not-close
+returns-then-not-close c =
+    let t = YieldsList-turn (YieldsList-from_slice_split _ (λ b. eqb b 44) c.args.s.now (cc) (cc) (cc) (λ x b q k. search (rules, tests))) c.loop-e.yielded _ c.loop-e.yielded_by _ _ c.in-Some.e c.in-Some.is c.next.ensures.steps in
+    closes_bad _ _ _ _ _ _ _ _ t c.if-not-close.true c.close.ensures c.loop-e.invariant.1
+
+pub loop-e-preserved : goal.loop-e-preserved
+loop-e-preserved c =
+    let t = YieldsList-turn (YieldsList-from_slice_split _ (λ b. eqb b 44) c.args.s.now (cc) (cc) (cc) (λ x b q k. search (rules, tests))) c.loop-e.yielded _ c.loop-e.yielded_by _ _ c.in-Some.e c.in-Some.is c.next.ensures.steps in (
+      c.close.auto.out ∙ c.loop-e.invariant.0,
+      closes_good _ _ _ _ _ _ _ _ _ t (length_push c.loop-e.yielded c.in-Some.e) c.if-not-close.false c.close.ensures c.loop-e.invariant.1,
     )
 
 pub returns : goal.returns
 returns c =
-    let a = c.args in
-    let l = c.loop-i in
-    c.close.ensures ∙ rw c.part.ensures
-    (on-last a.points a.s.now _ l.i l.out c.loop-i-test.false) ∙ l.invariant.3
+    let t = YieldsList-end (YieldsList-from_slice_split _ (λ b. eqb b 44) c.args.s.now (cc) (cc) (cc) (λ x b q k. search (rules, tests))) c.loop-e.yielded _ c.loop-e.yielded_by _ _ c.in-None.is c.next.ensures.steps in
+    closes_none _ _ _ _ _ t.1 c.loop-e.invariant.1

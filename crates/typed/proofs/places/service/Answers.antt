@@ -1,20 +1,47 @@
--- `typed::places::service` meets its contract: each return is one case of the chain.
-use Rattle.choice.proofs.Rules.{asked}
-use Rattle.typed.specs.Places.{service}
+-- `typed::places::service` meets its contract: a word of another length, or with another octet, is none of the six.
+use Rattle.std.proofs.Common.{arith}
+use Rattle.typed.proofs.words.Walk.{equal_reads}
+use Rattle.typed.proofs.places.Many.{unserved_none}
 use Rattle.typed.proofs.places.service.Goals as goal
 
-pub returns-then-equal : goal.returns-then-equal
-unfolding service
-returns-then-equal c = search asked depth 20
+ruleset reads = (arith, equal_reads)
 
-pub returns-then-equal-2 : goal.returns-then-equal-2
-unfolding service
-returns-then-equal-2 c = search asked depth 20
+pub returns-in_default : goal.returns-in_default
+returns-in_default c =
+    unserved_none c.args.w.now (grind reads) (grind reads) (grind reads) (grind reads) (grind reads) (grind reads)
 
-pub returns-then-equal-3 : goal.returns-then-equal-3
-unfolding service
-returns-then-equal-3 c = search asked depth 20
+pub returns-in_default-4 : goal.returns-in_default-4
+returns-in_default-4 c =
+    unserved_none c.args.w.now (grind reads) (grind reads) (grind reads) (grind reads) (grind reads) (grind reads)
 
-pub returns : goal.returns
-unfolding service
-returns c = search asked depth 20
+pub returns-in_default-5 : goal.returns-in_default-5
+returns-in_default-5 c =
+    unserved_none c.args.w.now (grind reads) (grind reads) (grind reads) (grind reads) (grind reads) (grind reads)
+
+pub returns-in_default-8 : goal.returns-in_default-8
+returns-in_default-8 c =
+    unserved_none c.args.w.now (grind reads) (grind reads) (grind reads) (grind reads) (grind reads) (grind reads)
+
+pub returns-in_default-9 : goal.returns-in_default-9
+returns-in_default-9 c =
+    unserved_none c.args.w.now (grind reads) (grind reads) (grind reads) (grind reads) (grind reads) (grind reads)
+
+pub returns-in_default-12 : goal.returns-in_default-12
+returns-in_default-12 c =
+    unserved_none c.args.w.now (grind reads) (grind reads) (grind reads) (grind reads) (grind reads) (grind reads)
+
+pub returns-in_default-14 : goal.returns-in_default-14
+returns-in_default-14 c =
+    unserved_none c.args.w.now (grind reads) (grind reads) (grind reads) (grind reads) (grind reads) (grind reads)
+
+pub returns-in_default-19 : goal.returns-in_default-19
+returns-in_default-19 c =
+    unserved_none c.args.w.now (grind reads) (grind reads) (grind reads) (grind reads) (grind reads) (grind reads)
+
+pub returns-in_default-20 : goal.returns-in_default-20
+returns-in_default-20 c =
+    unserved_none c.args.w.now (grind reads) (grind reads) (grind reads) (grind reads) (grind reads) (grind reads)
+
+pub returns-in_default-21 : goal.returns-in_default-21
+returns-in_default-21 c =
+    unserved_none c.args.w.now (grind reads) (grind reads) (grind reads) (grind reads) (grind reads) (grind reads)

@@ -1,8 +1,0 @@
--- `typed::places::queue_at` meets its contract: what the number says.
-use mathlib.Core.Path.{ap}
-use Rattle.typed.specs.declared.digits.Number.{Number}
-use Rattle.typed.proofs.places.queue_at.Goals as goal
-
-pub returns : goal.returns
-returns c =
-    rw c.word.ensures at (ap (λ (x : Number). x.good) c.queue.ensures)
