@@ -21,9 +21,9 @@ use Rattle.state.specs.declared.State.{State}
 use Rattle.state.specs.Told.{Renewed}
 use Rattle.state.specs.World.{Rows, rows}
 use Rattle.state.specs.Calls.{Started, Unstarted, Station, start}
-use Rattle.std.specs.Prelude.{Ok, Err}
+use Rattle.std.specs.Prelude.{Ok, Err, None, Some}
 use Rattle.refusal.specs.declared.Refusal.{Refusal}
-use Rattle.refusal.specs.Refusal.{number}
+use Rattle.refusal.specs.Refusal.{number, refused}
 use Rattle.refusal.proofs.Numbers.{above_zero}
 use Rattle.state.specs.Told.{Leaves, leaves, started_of, renewed_by, blank}
 use Rattle.printed_lines.specs.declared.saying.Played.{Played}
@@ -31,7 +31,8 @@ use Rattle.printed_lines.specs.Saying.{unknown_line, plain_line, Plays, printing
 use Rattle.printed_lines.proofs.saying.Lines.{laid-near}
 use Rattle.play.specs.Play.{start_by, played_by}
 use Rattle.desk.specs.declared.Held.{Held}
-use Rattle.desk.specs.Desk.{Arrays, Few, Answers, says, cleared, starting, started, answer_other, desk_of}
+use Rattle.desk.specs.Desk.{Arrays, Few, Answers, says, cleared, starting, started, answer_other, begun_of, state_of}
+use Rattle.desk.specs.Desk.{desk_of}
 
 -- ---- a row in its array: a part that was lent and is back, and one that was left
 row_back : (n : ℕ) (l m : List ℕ) → length m ≡ n → take n (put_mid 0 n l m) ≡ m
@@ -81,23 +82,23 @@ lays-printed x text {text' = text'} e t k =
       near = omega (arith, t, laid-near text x.line text' f k);
     }
 
-pub goes_on : (c : Call) (line : List ℕ) (h : Held) (high harea low larea text : List ℕ) {p : Played}
+pub goes_on : (c : Call) (line : List ℕ) (h : Held) (s : State) (high harea low larea text : List ℕ) {p : Played}
     {u ua v va text' : List ℕ}
-    → Arrays high harea low larea text → Few h → h.begun ≡ true
+    → Arrays high harea low larea text → Few h → h.state ≡ Some s
     → leaves p (rows u ua) (rows v va) text'
     ≡ printing
-    (played_by c line h.state (rows (take (SIZE * h.high) high) (take (AREA * h.high) harea))
+    (played_by c line s (rows (take (SIZE * h.high) high) (take (AREA * h.high) harea))
     (rows (take (SIZE * h.low) low) (take (AREA * h.low) larea))) text
     → length u ≡ SIZE * h.high → length ua ≡ AREA * h.high → length v ≡ SIZE * h.low → length va ≡ AREA * h.low
     → length text' ≡ length text
     → Answers (answer_other c line (desk_of h high harea low larea)) high harea low larea text
     (record {
-      held = record { begun = h.begun; high = h.high; low = h.low; state = p.state };
+      held = record { high = h.high; low = h.low; state = Some p.state };
       length = p.length;
     }) (put_mid 0 (SIZE * h.high) high u) (put_mid 0 (AREA * h.high) harea ua)
     (put_mid 0 (SIZE * h.low) low v) (put_mid 0 (AREA * h.low) larea va) text'
-unfolding answer_other started desk_of printing
-goes_on c line h high harea low larea text a f b e eu eua ev eva k =
+unfolding answer_other started begun_of state_of desk_of printing
+goes_on c line h s high harea low larea text a f b e eu eua ev eva k =
     rw (b, pick_true)
     (record {
       desk =
@@ -136,10 +137,10 @@ silent h high harea low larea text w f =
     (record { place = refl; left = sym (laid_nil text 0); near = omega arith })
 
 pub unbegun : (c : Call) (line : List ℕ) (h : Held) (high harea low larea text : List ℕ) {n : ℕ} {text' : List ℕ}
-    → h.begun ≡ false → Arrays high harea low larea text → Few h → Lays text 0 unknown_line 8192 n text'
+    → h.state ≡ None → Arrays high harea low larea text → Few h → Lays text 0 unknown_line 8192 n text'
     → Answers (answer_other c line (desk_of h high harea low larea)) high harea low larea text
     (record { held = h; length = n }) high harea low larea text'
-unfolding answer_other desk_of
+unfolding answer_other begun_of state_of desk_of
 unbegun c line h high harea low larea text b w f x =
     rw (b, pick-false) (rw b at (keeps unknown_line h high harea low larea text w f x))
 
@@ -170,10 +171,10 @@ row-cleared n l = rw (laid-start l (zeros n)) (take_at (zeros n) _ n (length-rep
 given_by : (t : Started) (a b : ℕ) (h : Held) (high harea low larea text : List ℕ) {n : ℕ} {text' : List ℕ}
     → Begins t a b → (started_of t).refused ≡ 0 → Lays text 0 (plain_line (started_of t).refused) 8192 n text'
     → Answers (starting t a b (desk_of h high harea low larea)) high harea low larea text
-    (record { held = record { begun = true; high = a; low = b; state = (started_of t).state }; length = n })
+    (record { held = record { high = a; low = b; state = Some (started_of t).state }; length = n })
     (laid high 0 (zeros (SIZE * a))) (laid harea 0 (zeros (AREA * a))) (laid low 0 (zeros (SIZE * b)))
     (laid larea 0 (zeros (AREA * b))) text'
-unfolding starting started_of desk_of cleared
+unfolding starting started_of begun_of state_of desk_of cleared
 given_by t a b h high harea low larea text (refuses k e p) r x = absurd (omega (arith, p, rw e at r))
 given_by t a b h high harea low larea text (gives s e u v) r x =
     rw e
@@ -209,10 +210,10 @@ pub ruleset few_rows = (few_high, few_low)
 pub begun-refused : (line : List ℕ) (h : Held) (high harea low larea text : List ℕ) (r : Refusal) {n : ℕ}
     {text' : List ℕ}
     → Arrays high harea low larea text → Few h → renewed_by blank (Err r) ≡ started_of (start_by line)
-    → Lays text 0 (plain_line (renewed_by h.state (Err r)).refused) 8192 n text'
+    → Lays text 0 (plain_line (refused {A = State} (Err r))) 8192 n text'
     → Answers (starting (start_by line) (high_of line) (low_of line) (desk_of h high harea low larea)) high harea low
     larea text (record { held = h; length = n }) high harea low larea text'
-unfolding renewed_by
+unfolding refused renewed_by
 begun-refused line h high harea low larea text r {n = n} {text' = text'} w f e x =
     let k : number r ≡ (started_of (start_by line)).refused = ap (λ (y : Renewed). y.refused) e in
     refused-by (start_by line) _ _ h high harea low larea text (start-begins line) w f
@@ -222,15 +223,15 @@ begun-refused line h high harea low larea text r {n = n} {text' = text'} w f e x
 pub begun-given : (line : List ℕ) (h : Held) (high harea low larea text : List ℕ) (s : State) {n : ℕ}
     {text' : List ℕ}
     → renewed_by blank (Ok s) ≡ started_of (start_by line)
-    → Lays text 0 (plain_line (renewed_by h.state (Ok s)).refused) 8192 n text'
+    → Lays text 0 (plain_line (refused {A = State} (Ok s))) 8192 n text'
     → Answers (starting (start_by line) (high_of line) (low_of line) (desk_of h high harea low larea)) high harea low
     larea text
     (record {
-      held = record { begun = true; high = high_of line; low = low_of line; state = s };
+      held = record { high = high_of line; low = low_of line; state = Some s };
       length = n;
     }) (laid high 0 (zeros (SIZE * high_of line))) (laid harea 0 (zeros (AREA * high_of line)))
     (laid low 0 (zeros (SIZE * low_of line))) (laid larea 0 (zeros (AREA * low_of line))) text'
-unfolding renewed_by
+unfolding refused renewed_by
 begun-given line h high harea low larea text s {n = n} {text' = text'} e x =
     let k : 0 ≡ (started_of (start_by line)).refused = ap (λ (y : Renewed). y.refused) e in
     let t : s ≡ (started_of (start_by line)).state = ap (λ (y : Renewed). y.state) e in

@@ -1,19 +1,20 @@
 -- A line has one answer: the contract of `desk::answer` leaves nothing open of what is answered, nor of any octet
 -- that was lent. Assumes nothing.
 use Prim.Native.Nat.{ℕ, ◌*◌, ◌≤◌}
-use mathlib.Core.Bool.{Bool}
+use mathlib.Core.Bool.{true≢false}
 use mathlib.Core.List.{List}
-use mathlib.Core.Path.{◌≡◌, sym, ap, ◌∙◌}
+use mathlib.Core.Path.{◌≡◌, refl, sym, ap, ◌∙◌}
 use native.Mathlib.Omega.{arith}
 use lib.ListN.{length, take, length-append, length-drop}
 use lib.Seq.{length-take-le}
+use Rattle.std.specs.Prelude.{Option, None, Some}
 use Rattle.laid.specs.Laid.{laid}
 use Rattle.laid.proofs.Laws.{laid-start}
 use Rattle.request.specs.Record.{SIZE}
 use Rattle.state.specs.declared.State.{State}
 use Rattle.desk.specs.declared.Held.{Held}
 use Rattle.desk.specs.declared.Said.{Said}
-use Rattle.desk.specs.Desk.{Desk, Answered, Arrays, Answers, desk_of}
+use Rattle.desk.specs.Desk.{Desk, Answered, Arrays, Answers, begun_of, state_of, desk_of}
 
 -- ---- a row in its array says how many places are in use
 longer : (l u : List ℕ) → length l ≤ length (laid l 0 u)
@@ -23,10 +24,16 @@ places : (n : ℕ) (l m u : List ℕ) → m ≡ laid l 0 u → n ≤ length l �
 places n l m u e h f = sym (length-take-le n m (rw e (omega (arith, longer l u)))) ∙ ap length f
 
 -- ---- what is held, by its fields
-same-held : {b c : Bool} {h i l m : ℕ} {s t : State} → b ≡ c → h ≡ i → l ≡ m → s ≡ t
-    → ◌≡◌ {A = Held} (record { begun = b; high = h; low = l; state = s })
-    (record { begun = c; high = i; low = m; state = t })
-same-held e f g h = rw (e, f, g, h)
+same-state : (s t : Option State) → begun_of s ≡ begun_of t → state_of s ≡ state_of t → s ≡ t
+unfolding begun_of state_of
+same-state None None b e = refl
+same-state None (Some t) b e = absurd (true≢false (sym b))
+same-state (Some s) None b e = absurd (true≢false b)
+same-state (Some s) (Some t) b e = ap (λ (u : State). Some u) e
+
+same-held : {h i l m : ℕ} {s t : Option State} → h ≡ i → l ≡ m → s ≡ t
+    → ◌≡◌ {A = Held} (record { high = h; low = l; state = s }) (record { high = i; low = m; state = t })
+same-held e f g = rw (e, f, g)
 
 same-said : {h i : Held} {n m : ℕ} → h ≡ i → n ≡ m
     → ◌≡◌ {A = Said} (record { held = h; length = n }) (record { held = i; length = m })
@@ -55,8 +62,8 @@ module _ (a : Answered) (high harea low larea text : List ℕ) (w : Arrays high 
   one_answer x y =
       let d = x.desk ∙ sym y.desk in (
         same-said
-            (same-held (ap (λ (z : Desk). z.begun) d) (omega (arith, upper-places x, upper-places y))
-            (omega (arith, lower-places x, lower-places y)) (ap (λ (z : Desk). z.state) d))
+            (same-held (omega (arith, upper-places x, upper-places y)) (omega (arith, lower-places x, lower-places y))
+            (same-state _ _ (ap (λ (z : Desk). z.begun) d) (ap (λ (z : Desk). z.state) d)))
             (x.line.place ∙ sym y.line.place),
         x.upper ∙ sym y.upper,
         x.upper_area ∙ sym y.upper_area,

@@ -1,6 +1,7 @@
 -- The replay script: what the program holds, "one station, its two rows with their data", and what each line does to
 -- it. Assumes nothing.
 use Rattle.std.specs.Prelude.{ℕ, ◌*◌, ◌≤◌, ◌≡◌, Bool, true, false, List, [], length, take, get_or, replicate}
+use Rattle.std.specs.Prelude.{Option, None, Some}
 use Rattle.choice.specs.Choice.{pick, less, same, said}
 use Rattle.laid.specs.Laid.{laid, Lays}
 use Rattle.request.specs.Record.{SIZE}
@@ -13,6 +14,7 @@ use Rattle.typed_call.specs.Script.{call_of}
 use Rattle.typed_call.specs.Operands.{high_of, low_of}
 use Rattle.state.specs.declared.State.{State}
 use Rattle.state.specs.World.{Rows, rows}
+use Rattle.state.specs.Told.{blank}
 use Rattle.state.specs.Calls.{Started, Unstarted, Station}
 use Rattle.printed_lines.specs.Saying.{unknown_line, plain_line, Plays}
 use Rattle.play.specs.Play.{start_by, played_by}
@@ -75,12 +77,21 @@ answer l d =
     (pick (same (get_or l 0 0) 0x23) (says [] d)
     (pick (less LONGEST (length l)) (says unknown_line d) (answer_by (call_of l) l d)))
 
+-- what is held of the station: whether a start was accepted, and the state; a blank one, which no line reads, before
+unfoldable pub begun_of : Option State → Bool
+begun_of None = false
+begun_of (Some s) = true
+
+unfoldable pub state_of : Option State → State
+state_of None = blank
+state_of (Some s) = s
+
 -- the desk that is held, where each row is the first places of an array
 unfoldable pub desk_of : Held → List ℕ → List ℕ → List ℕ → List ℕ → Desk
 desk_of h high harea low larea =
     record {
-      begun = h.begun;
-      state = h.state;
+      begun = begun_of h.state;
+      state = state_of h.state;
       high = rows (take (SIZE * h.high) high) (take (AREA * h.high) harea);
       low = rows (take (SIZE * h.low) low) (take (AREA * h.low) larea);
     }

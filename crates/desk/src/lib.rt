@@ -22,14 +22,13 @@ use typed_call::{operands, script};
 
 const COMMENT: u8 = b'#';
 
-// What is held beside the arrays of the rows: whether a start was accepted, how many places each row has, and the
-// state.
+// What is held beside the arrays of the rows: how many places each row has, and the state since the last accepted
+// start, None before the first.
 #[derive(Drop)]
 pub struct Held {
-    pub begun: bool,
     pub high: usize,
     pub low: usize,
-    pub state: State,
+    pub state: Option<State>,
 }
 
 // What a line leaves, and the length of what it prints.
@@ -59,7 +58,7 @@ fn begin(h: Held, line: &[u8], rows: &mut Rows, text: &mut [u8]) -> Said
     ensures same { SameRows rows.old rows.new }
 {
     let r = play::start(line);
-    let length = saying::plain(h.state, r, text).length;
+    let length = saying::outcome(r, text);
     let Ok(state) = r else {
         return Said { held: h, length };
     };
@@ -71,10 +70,9 @@ fn begin(h: Held, line: &[u8], rows: &mut Rows, text: &mut [u8]) -> Said
     clear(rows.low_area, queue::AREA * lower);
     Said {
         held: Held {
-            begun: true,
             high: upper,
             low: lower,
-            state,
+            state: Some(state),
         },
         length,
     }
@@ -114,19 +112,19 @@ fn go_on(h: Held, call: Call, line: &[u8], rows: &mut Rows, text: &mut [u8]) -> 
     ensures arrays { ArraysIn rows.new text.new }
     ensures same { SameRows rows.old rows.new }
 {
-    if !h.begun {
+    let Some(state) = h.state else {
         return Said {
             held: h,
             length: saying::unknown(text),
         };
-    }
+    };
     let high = &mut *rows.high;
     let high_area = &mut *rows.high_area;
     let low = &mut *rows.low;
     let low_area = &mut *rows.low_area;
     let p = play_on(
         call,
-        h.state,
+        state,
         line,
         &mut high[..request::SIZE * h.high],
         &mut high_area[..queue::AREA * h.high],
@@ -136,7 +134,7 @@ fn go_on(h: Held, call: Call, line: &[u8], rows: &mut Rows, text: &mut [u8]) -> 
     );
     Said {
         held: Held {
-            state: p.state,
+            state: Some(p.state),
             ..h
         },
         length: p.length,

@@ -7,6 +7,7 @@
 ghost use Rattle.std.specs.Prelude.{◌≤◌, length, ◌≡◌};
 ghost use Rattle.frame.specs.Reading.{part};
 ghost use Rattle.laid.specs.Laid.{Lays};
+ghost use Rattle.refusal.specs.Refusal.{refused};
 ghost use Rattle.state.specs.Told.{answered_by, renewed_by};
 ghost use Rattle.printed_lines.specs.Saying.{unknown_line, plain_line, answer_line};
 
@@ -29,22 +30,28 @@ pub fn unknown(text: &mut [u8]) -> usize
     laid::lay(b"?\n", text, 0)
 }
 
-// Lays the line of what start, submit or reset answered in a state.
-#[tactic(auto, using(printed::proofs::phrases::Steps::laying), unfolding(choice::specs::Choice::pick, choice::specs::Choice::same, state::specs::Told::renewed_by, crate::specs::Saying::plain_line))]
+// Lays the line of what start, submit or reset answered: whether it was refused.
+#[tactic(auto, using(printed::proofs::phrases::Steps::laying), unfolding(choice::specs::Choice::pick, choice::specs::Choice::same, refusal::specs::Refusal::refused, crate::specs::Saying::plain_line))]
+pub fn outcome<A: Drop>(a: Result<A, Refusal>, text: &mut [u8]) -> usize
+    requires { 8192 ≤ length text.old }
+    ensures { Lays text.old 0 (plain_line (refused a)) 8192 result text.new }
+{
+    match a {
+        Ok(_) => laid::lay(b"ok\n", text, 0),
+        Err(r) => phrases::refused(r.number(), text, 0),
+    }
+}
+
+// Lays that line for the state that a call was made in, where a refused call leaves that state.
+#[tactic(auto, unfolding(refusal::specs::Refusal::refused, state::specs::Told::renewed_by))]
 pub fn plain(s: State, a: Result<State, Refusal>, text: &mut [u8]) -> Played
     requires { 8192 ≤ length text.old }
     ensures state_value { result.state ≡ (renewed_by s a).state }
     ensures lays { Lays text.old 0 (plain_line (renewed_by s a).refused) 8192 result.length text.new }
 {
-    match a {
-        Ok(state) => Played {
-            state,
-            length: laid::lay(b"ok\n", text, 0),
-        },
-        Err(r) => Played {
-            state: s,
-            length: phrases::refused(r.number(), text, 0),
-        },
+    Played {
+        state: a.unwrap_or(s),
+        length: outcome(a, text),
     }
 }
 

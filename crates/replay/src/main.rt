@@ -3,7 +3,7 @@
 // are called in turn, in memory that does not grow with the script. What is written is what the script's lines print.
 #![tactic(auto)]
 
-ghost use Rattle.std.specs.Prelude.{◌≡◌, ◌<◌, false, length, IfOk, IfSome, OnOk};
+ghost use Rattle.std.specs.Prelude.{◌≡◌, ◌<◌, None, length, IfOk, IfSome, OnOk};
 ghost use Rattle.std.specs.Io.KnownBytes.{Appends};
 ghost use Rattle.desk.specs.Desk.{Few};
 ghost use Rattle.desk.specs.Lent.{ArraysIn};
@@ -13,11 +13,7 @@ ghost use Rattle.replay.specs.Lent.{ReadyIn, stand_in};
 ghost use Rattle.replay.specs.Script.{READS, answers, heeded, heeded_line, behind, written};
 
 use desk::Held;
-use frame::Address;
-use queue::Queue;
-use ring::Masters;
-use state::{Points, Rows};
-use station_start::starting;
+use state::Rows;
 use std::io;
 use std::io::{Read, Write};
 
@@ -33,29 +29,14 @@ struct Pending {
     count: usize,
 }
 
-// Before the first start: no line reads the state that stands here.
+// Before the first start.
 fn unbegun() -> Held
-    ensures { (Few result) × (result.begun ≡ false) }
+    ensures { (Few result) × (result.state ≡ None) }
 {
-    let none = Queue {
-        places: 0,
-        first: 0,
-        confirmed: 0,
-        unconfirmed: 0,
-    };
     Held {
-        begun: false,
         high: 0,
         low: 0,
-        state: starting::fresh(
-            times::STANDARD,
-            Address(0),
-            Masters([0; 127]),
-            Points([0; 64]),
-            none,
-            none,
-            [0; 255],
-        ),
+        state: None,
     }
 }
 
@@ -105,6 +86,7 @@ fn take_in<W: Write>(
     let mut held = p.held;
     let mut count = p.count;
     let mut at = 0;
+    // Kept: `while`. A turn's next place is what `gather` gives, so no range and no iterator has the places.
     while at < block.len() {
         let g = typed_lines::gather(block, at, line, count);
         at = g.next;

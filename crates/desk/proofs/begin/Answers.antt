@@ -6,7 +6,7 @@ pub returns-in_default-clause-answers : goal.returns-in_default-clause-answers
 returns-in_default-clause-answers c =
     let a = c.args in
     begun-refused a.line.now a.h a.rows.now.high.now a.rows.now.high_area.now a.rows.now.low.now a.rows.now.low_area.now
-    a.text.now _ c.requires.0 c.requires.1 c.in_default.ensures (rw c.in_default.is at c.plain-length.ensures.lays)
+    a.text.now _ c.requires.0 c.requires.1 c.in_default.ensures (rw c.in_default.is at c.outcome-length.ensures)
 
 pub returns-clause-answers : goal.returns-clause-answers
 returns-clause-answers c =
@@ -19,4 +19,4 @@ returns-clause-answers c =
       c.high-upper.ensures,
     )
     (begun-given a.line.now a.h a.rows.now.high.now a.rows.now.high_area.now a.rows.now.low.now a.rows.now.low_area.now
-    a.text.now _ c.in-Ok.ensures (rw c.in-Ok.is at c.plain-length.ensures.lays))
+    a.text.now _ c.in-Ok.ensures (rw c.in-Ok.is at c.outcome-length.ensures))

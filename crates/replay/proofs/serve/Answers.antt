@@ -1,8 +1,8 @@
 -- `replay::serve` meets its contract: at the end of the input all that was read is the script, and the line at hand is
 -- its last.
-use Rattle.std.proofs.Common.{◌<◌, arith, length, take, length-take-le}
+use Rattle.std.proofs.Common.{◌<◌, ap, arith, length, take, length-take-le}
 use Rattle.std.specs.Io.KnownBytes.{Appends}
-use Rattle.desk.specs.Desk.{desk_of}
+use Rattle.desk.specs.Desk.{begun_of, desk_of}
 use Rattle.replay.specs.Script.{stand, answers}
 use Rattle.replay.proofs.Whole.{served-none, served-on, served-all, served-many}
 use Rattle.replay.proofs.serve.Goals as goal
@@ -21,11 +21,11 @@ loop-turn-init g c =
     }
 
 pub returns-then-n-eq0 : goal.returns-then-n-eq0
-unfolding stand desk_of
+unfolding stand begun_of desk_of
 returns-then-n-eq0 g c = λ h.
     let some : 0 < length c.read.new.buf = omega (arith, h) in
     served-all (g.R.Read.remaining c.read.new.self) (g.W.Write.contents c.heed.new.output)
-    c.loop-turn.invariant.served c.unbegun-held.ensures.1 (rw c.if-n-eq0.true at c.in_ok-n.ensures.bytes.0)
+    c.loop-turn.invariant.served (ap begun_of c.unbegun-held.ensures.1) (rw c.if-n-eq0.true at c.in_ok-n.ensures.bytes.0)
     (c.in_ok-n.ensures.bytes.1 c.if-n-eq0.true some) c.in_ok-heed.ensures.bytes
 
 pub loop-turn-preserved : goal.loop-turn-preserved
