@@ -4,6 +4,8 @@
 use Rattle.std.specs.Prelude.{ℕ, Bool, true, false, List, [], ◌∷◌, ◌++◌, set, None, Some}
 use Rattle.choice.specs.Choice.{pick, same, said}
 use Rattle.typed.specs.Words.{equal}
+use Rattle.typed.specs.declared.lists.Kind.{Kind}
+use Rattle.typed.specs.declared.lists.Kind.TheVariants.{Masters, Points}
 use Rattle.typed.specs.Digits.{Number, decimal, number, dash}
 
 abbrev pub COMMA : ℕ
@@ -18,6 +20,11 @@ LASTPOINT = 62
 
 abbrev pub NONEPLACE : ℕ
 NONEPLACE = 63
+
+-- whether a list holds points
+unfoldable pub pointed : Kind → Bool
+pointed Masters = false
+pointed Points = true
 
 -- "none", and the greatest place of a set of points or of masters
 abbrev pub none : List ℕ

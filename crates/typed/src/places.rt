@@ -27,6 +27,7 @@ pub struct Pair {
 }
 
 // A queue's number: 0 the high one, 1 the low one.
+// Kept: a table each for queue and room; one function that is given the words is no plainer.
 #[tactic(auto, using(crate::proofs::words::Walk::equal_reads), unfolding(choice::specs::Choice::pick, choice::specs::Choice::said, crate::specs::Places::either, crate::specs::Places::queue))]
 pub fn queue(w: &[u8]) -> Option<u32>
     ensures { result ≡ places_queue w.now }
