@@ -62,6 +62,7 @@ fn left(c: Core, clock: BitTime) -> bool
 }
 
 // What a hold goes on with, at its start or later.
+// Kept: whether the hold starts is a truth value, as in the definition `choice`.
 pub fn choice(starts: bool, c: Core, clock: BitTime) -> Choice
     ensures { result ≡ hold_choice starts c clock.0 }
 {
@@ -137,7 +138,7 @@ pub fn once(d: Doing) -> Doing
 pub fn passing(ns: Address, c: Core) -> Doing
     ensures { result ≡ pass_passing ns.0 c }
 {
-    let own = ns.0 == c.ts.0;
+    let own = ns == c.ts;
     Doing {
         phase: if own { Phase::ToSelf } else { Phase::Check },
         sendings: 1,

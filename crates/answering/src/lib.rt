@@ -47,7 +47,7 @@ pub fn answer(
         caller.entry.low.now request.head request.part).memory.octets }
 {
     let h = request.head;
-    let ours = h.destination.0 == responder.ts.0 || h.destination.0 == 127;
+    let ours = h.destination == responder.ts || h.destination.0 == 127;
     let (asks, bits) = match h.control {
         Control::Request { service, fcb, fcv } if ours => (
             answers::asks(service),

@@ -20,7 +20,7 @@ pub struct Bits {
 pub fn repeated(k: Kept, source: Address, bits: Bits) -> bool
     ensures { result ≡ answering_repeated k source.0 bits.fcb bits.fcv }
 {
-    bits.fcv && k.source.0 == source.0 && k.bit == bits.fcb
+    bits.fcv && k.source == source && k.bit == bits.fcb
 }
 
 // Lays the remembered reply's octets.

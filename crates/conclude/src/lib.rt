@@ -96,7 +96,7 @@ pub fn retry(
         (high_in rows.new) (low_in rows.new) out.new }
     ensures same { SameRows rows.old rows.new }
 {
-    let r = refusals::in_flight(c, rows);
+    let r = refusals::served(c, rows);
     if r.limit < c.doing.sendings {
         finish(Outcome::Lost, b"", clock, c, masters, marks, rows, out)
     } else {

@@ -24,7 +24,7 @@ fn swapped(r: Record, h: Head) -> bool
 fn returned(ts: Address, r: Record, h: Head) -> bool
     ensures { result ≡ request_returned ts.0 r h }
 {
-    h.destination.0 == ts.0 && h.source.0 == r.destination.0 && swapped(r, h)
+    h.destination == ts && h.source == r.destination && swapped(r, h)
 }
 
 // Whether a code with n octets of data answers an SDA, and whether it answers an SRD.

@@ -83,7 +83,7 @@ pub fn awaited(
     let Ok((f, p)) = read::read(s) else {
         return conclude::retry(clock, c, masters, marks, rows, out);
     };
-    let r = refusals::in_flight(c, rows);
+    let r = refusals::served(c, rows);
     let verdict = judge::judge(c.ts, r, f, p.count);
     let x = view::data_of(s, p);
     conclude::conclude(clock, x, verdict, c, masters, marks, rows, out)

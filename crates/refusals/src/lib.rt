@@ -58,7 +58,7 @@ fn alone(c: Core, masters: &[u8; 127]) -> bool
     requires { c.ts.0 < 127 }
     ensures { result ≡ same (next_of masters.now c.ts.0) c.ts.0 }
 {
-    ring::next(masters, c.ts).0 == c.ts.0
+    ring::next(masters, c.ts) == c.ts
 }
 
 fn odd(c: Core, masters: &[u8; 127]) -> bool
@@ -108,15 +108,24 @@ fn unlike(phase: Phase, service: u8) -> bool
 }
 
 // The record being sent, or the one that would be.
-pub fn in_flight(c: Core, rows: &Rows) -> Record
+pub fn in_flight(c: Core, high: &[u8], low: &[u8]) -> Record
+    requires { (Lawful c)
+        × ((length high.now ≡ SIZE * c.high.places) × (length low.now ≡ SIZE * c.low.places)) }
+    ensures { result ≡ in_flight c high.now low.now }
+{
+    match c.doing.served {
+        Priority::High => rows::at(high, queue::current(c.high)),
+        Priority::Low => rows::at(low, queue::current(c.low)),
+    }
+}
+
+// The same of the rows lent as one.
+pub fn served(c: Core, rows: &Rows) -> Record
     requires { (Lawful c)
         × ((length rows.now.high.now ≡ SIZE * c.high.places) × (length rows.now.low.now ≡ SIZE * c.low.places)) }
     ensures { result ≡ in_flight c rows.now.high.now rows.now.low.now }
 {
-    match c.doing.served {
-        Priority::High => rows::at(rows.high, queue::current(c.high)),
-        Priority::Low => rows::at(rows.low, queue::current(c.low)),
-    }
+    in_flight(c, rows.high, rows.low)
 }
 
 // Whether an unconfirmed record is one that submit would refuse, or the record being sent is not the phase's: refusal
@@ -128,7 +137,7 @@ fn unsound(c: Core, rows: &Rows) -> bool
 {
     !rows::sound(c.ts, c.high, rows.high)
         || !rows::sound(c.ts, c.low, rows.low)
-        || unlike(c.doing.phase, in_flight(c, rows).service)
+        || unlike(c.doing.phase, served(c, rows).service)
 }
 
 // The refusal of frame, sent and slot, with an output and two updates of those lengths.

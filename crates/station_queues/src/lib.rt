@@ -1,9 +1,9 @@
 // The station's calls submit and collect: each takes any state, any row and any octets, and answers. Assumes nothing.
 #![tactic(auto)]
 
-ghost use Rattle.std.specs.Prelude.{◌≡◌, ◌≤◌, Ok};
+ghost use Rattle.std.specs.Prelude.{◌≡◌, ◌≤◌, length, Ok};
 ghost use Rattle.refusal.specs.Refusal.{refused};
-ghost use Rattle.request.specs.Record.{limited as record_limited};
+ghost use Rattle.request.specs.Record.{SIZE, limited as record_limited};
 ghost use Rattle.queue.specs.Queue.{accepted, collected_of, misfit};
 ghost use Rattle.rows.specs.Rows.{left};
 ghost use Rattle.state.specs.World.{rows};
@@ -14,20 +14,28 @@ ghost use Rattle.station_queues.specs.Decided.{refusal_of, accepted_for};
 use queue::{Handed, Queue, Taken};
 use refusal::Refusal;
 use request::Record;
-use state::{Accepted, Core, HandedBack, Priority, State};
+use state::{Accepted, Core, HandedBack, Kept, Priority, State};
 
 // The refusal of submit and collect, if there is one: for the state, or for a row of so many octets or records, so many
 // for each place, and a data area of so many octets.
 #[tactic(auto, unfolding(choice::specs::Choice::pick, choice::specs::Choice::said, refusal::specs::Refusal::number, refusal::specs::Refusal::refused, crate::specs::Decided::refusal_of))]
-pub fn refusal(s: &State, q: Queue, each: usize, row: usize, area: usize) -> Result<(), Refusal>
+pub fn refusal(
+    q: Queue,
+    c: Core,
+    masters: &[u8; 127],
+    started: &[u8; 127],
+    k: Kept,
+    each: usize,
+    row: usize,
+    area: usize,
+) -> Result<(), Refusal>
     requires { each ≤ 255 }
-    ensures { refused result
-        ≡ refusal_of (misfit q each row area) s.now.core s.now.masters.0 s.now.started.0 s.now.memory.kept }
+    ensures { refused result ≡ refusal_of (misfit q each row area) c masters.now started.now k }
 {
     if queue::misfit(q, each, row, area) {
         return Err(Refusal::Row);
     }
-    if refusals::lawless(s.core, &s.masters.0, &s.started.0, s.memory.kept) {
+    if refusals::lawless(c, masters, started, k) {
         return Err(Refusal::State);
     }
     Ok(())
@@ -55,6 +63,24 @@ pub fn accepting(s: State, p: Priority, t: Taken) -> Accepted
     }
 }
 
+// The same for a row of octets and a data area, in a state.
+fn refused_in(s: &State, q: Queue, row: &[u8], area: &[u8]) -> Result<(), Refusal>
+    ensures { refused result
+        ≡ refusal_of (misfit q SIZE (length row.now) (length area.now)) s.now.core s.now.masters.0
+        s.now.started.0 s.now.memory.kept }
+{
+    refusal(
+        q,
+        s.core,
+        &s.masters.0,
+        &s.started.0,
+        s.memory.kept,
+        request::SIZE,
+        row.len(),
+        area.len(),
+    )
+}
+
 // Submits a request with its data to a queue, whose row and data area are lent.
 pub fn submit(
     s: State,
@@ -69,7 +95,7 @@ pub fn submit(
         (calls_submit p r x.now (lent p s (rows row.old area.old))) }
 {
     let q = acts::queue_of(p, s.core);
-    refusal(&s, q, request::SIZE, row.len(), area.len())?;
+    refused_in(&s, q, row, area)?;
     let t = rows::submit(s.core.ts, q, limited(s.core, r), x, row, area)?;
     Ok(accepting(s, p, t))
 }
@@ -94,7 +120,7 @@ pub fn collect(s: State, p: Priority, row: &[u8], area: &[u8]) -> Result<HandedB
     ensures { handed_back_by s result ≡ handed_back_of (calls_collect p (lent p s (rows row.now area.now))) }
 {
     let q = acts::queue_of(p, s.core);
-    refusal(&s, q, request::SIZE, row.len(), area.len())?;
+    refused_in(&s, q, row, area)?;
     let h = rows::collect(q, row)?;
     Ok(returning(s, p, h))
 }

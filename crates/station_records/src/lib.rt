@@ -25,7 +25,16 @@ fn refusal(s: &State, q: Queue, row: &[Record], area: &[u8]) -> Result<(), Refus
         ≡ refusal_of (misfit q SIZE (length (row_of row.now)) (length area.now)) s.now.core s.now.masters.0
         s.now.started.0 s.now.memory.kept }
 {
-    station_queues::refusal(s, q, 1, row.len(), area.len())
+    station_queues::refusal(
+        q,
+        s.core,
+        &s.masters.0,
+        &s.started.0,
+        s.memory.kept,
+        1,
+        row.len(),
+        area.len(),
+    )
 }
 
 // Submits a request with its data to a queue, whose row and data area are lent.

@@ -8,5 +8,5 @@ pub again-requires : goal.again-requires
 again-requires c =
     let a = c.args in
     let p = c.requires in
-    let small = limit-small a.c (high_in a.rows.now) (low_in a.rows.now) c.in_flight-r.ensures p.0 p.1.0 in
+    let small = limit-small a.c (high_in a.rows.now) (low_in a.rows.now) c.served-r.ensures p.0 p.1.0 in
     (p.0, (p.1.0, (omega (arith, small), p.1.1)))
