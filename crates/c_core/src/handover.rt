@@ -1,5 +1,6 @@
 // What a station's calls take and hand over at the C boundary: a state from numbers and lent arrays, and each answer
 // as a struct of numbers. Where a call is refused, the core handed over is the one it was given. Assumes nothing.
+// Kept: numbers in place of enums and a field for the refusal, here and below, because the C interface has them so.
 #![tactic(auto, unfolding(choice::specs::Choice::pick, choice::specs::Choice::same, crate::specs::Handover::state_in, crate::specs::Handover::request_from, crate::specs::Handover::room_of))]
 
 ghost use Rattle.std.specs.Prelude.{◌≡◌};

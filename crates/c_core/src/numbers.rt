@@ -1,6 +1,7 @@
 // What the C boundary holds of a station: numbers for the core and for what the memory keeps, and for an indication.
 // Every number is taken; where one stands for no case, the station has TS 127, which every call refuses. Assumes
 // nothing.
+// Kept: numbers in place of enums and a field for the refusal, here and below, because the C interface has them so.
 #![tactic(auto, unfolding(choice::specs::Choice::pick, choice::specs::Choice::same, choice::specs::Choice::less, choice::specs::Choice::said, crate::specs::Numbers::phase_number, crate::specs::Numbers::phase_of, crate::specs::Numbers::served_number, crate::specs::Numbers::served_of, crate::specs::Numbers::flag_number, crate::specs::Numbers::flag_of, crate::specs::Numbers::malformed, crate::specs::Numbers::ts_in, crate::specs::Numbers::settings_in, crate::specs::Numbers::settings_of, crate::specs::Numbers::doing_in, crate::specs::Numbers::hold_in, crate::specs::Numbers::high_in, crate::specs::Numbers::low_in, crate::specs::Numbers::core_in, crate::specs::Numbers::kept_in, crate::specs::Numbers::numbers_of, crate::specs::Numbers::indication_of))]
 
 ghost use Rattle.std.specs.Prelude.{◌≡◌};

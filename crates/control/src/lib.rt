@@ -63,6 +63,7 @@ pub enum Control {
 }
 
 // The service of a number; of one that names none, any.
+// Kept: this table, `code_of` and `type_of` are of three types, and a trait for them is no plainer than the tables.
 #[tactic(auto, unfolding(choice::specs::Choice::pick, choice::specs::Choice::same, crate::specs::Control::service_of))]
 fn service_of(n: u8) -> Service
     ensures { result ≡ service_of n }

@@ -32,6 +32,7 @@ fn read_full<R: Read>(input: &mut R, octets: &mut [u8]) -> io::Result<usize>
     ensures end { IfOk result (λ n. n < length octets.new → IsAtEnd (R.remaining input.new)) }
 {
     let mut done = 0;
+    // Kept: `while`. A read may give fewer octets than asked, so the next place comes from what was read.
     while done < octets.len() {
         let n = input.read(&mut octets[done..])?;
         if n == 0 {

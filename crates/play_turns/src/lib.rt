@@ -44,6 +44,7 @@ pub fn frame(s: State, given: Given, rows: &mut Rows, text: &mut [u8]) -> Played
 }
 
 // What was to be sent went out.
+// Kept: `sent` and `slot` apart. A function of what they share would take all that `saying::told` takes.
 pub fn sent(s: State, clock: BitTime, r: &mut Rows, text: &mut [u8]) -> Played
     requires { 8192 ≤ length text.old }
     ensures played { leaves result (high_in r.new) (low_in r.new) text.new

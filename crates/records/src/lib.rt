@@ -1,5 +1,6 @@
 // A row of request records as a slice of structs lent by the caller, with its data area: submit, confirm and collect,
 // thin over the queue's decisions. What each leaves is what `rows` leaves of the octets that the row stands for.
+// Kept: the calls of `rows` again, over structs, since document 01 names both forms.
 #![tactic(auto, using(crate::proofs::Laws::read_there, crate::proofs::Laws::put_there, crate::proofs::Laws::row_steps), unfolding(choice::specs::Choice::pick, choice::specs::Choice::same, queue::specs::Queue::accepted, rows::specs::Rows::confirm, rows::specs::Rows::handed, crate::specs::Records::placed))]
 
 ghost use Rattle.std.specs.Prelude.{◌≡◌, ◌+◌, ◌*◌, ◌<◌, ◌≤◌, length};

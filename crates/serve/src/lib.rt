@@ -152,6 +152,7 @@ pub fn pass_to(ns: Address, c: Core, out: &mut [u8]) -> Moved
     }
 }
 
+// Kept: whether the hold starts is a truth value, as in the definition `choose`.
 // Goes on with a hold, at its start or later: the first request of a queue, or the pass of the token.
 #[tactic(auto, unfolding(state::specs::Hold::choose, state::specs::Hold::chosen, state::specs::Hold::finish, state::specs::Pass::pass, state::specs::Pass::ns, state::specs::World::and_then, state::specs::World::done, state::specs::World::with_core, state::specs::Told::telling, state::specs::Told::adds))]
 pub fn choose(

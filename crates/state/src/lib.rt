@@ -52,6 +52,8 @@ pub struct Hold {
 }
 
 // What every decision goes by. The stranger is the sender of a first token, 127 for none.
+// Kept: 127 and no Option, here and in what is kept: a caller may hold any number, `lawless` refuses one over 127 by 29,
+// and Some of 127 would be a second none.
 #[derive(Clone, Copy)]
 pub struct Core {
     pub settings: Settings,

@@ -1,5 +1,6 @@
 // The station's times and its ring for the tests outside Rattle, as C functions. Numbers go in and
 // structs of numbers come out; every input has an answer. Assumes nothing.
+// Kept: numbers, a field for the refusal, and parameters one by one, because the C interface has them so.
 #![tactic(auto, using(crate::proofs::reckoned::Laws::reckoned_small), unfolding(choice::specs::Choice::pick, choice::specs::Choice::said, choice::specs::Choice::less, times::specs::Times::told, crate::specs::Parts::flat_times, crate::specs::Parts::reckons, crate::specs::Parts::is_left, crate::specs::Parts::nexts, crate::specs::Parts::previouses))]
 
 ghost use Rattle.std.specs.Prelude.{◌≡◌};

@@ -1,5 +1,6 @@
 // The calls on a row for the tests outside Rattle, as C functions. Numbers go in and structs of numbers come out; every
 // input has an answer: what a call requires of the queue, the row and the data is asked here first. Assumes nothing.
+// Kept: numbers, a field for the refusal, and parameters one by one, because the C interface has them so.
 #![tactic(auto, using(crate::proofs::row_calls::Laws::unrefused), unfolding(choice::specs::Choice::pick, choice::specs::Choice::said, choice::specs::Choice::same, choice::specs::Choice::less, refusal::specs::Refusal::number, refusal::specs::Refusal::refused, queue::specs::Queue::taken_of, queue::specs::Queue::accepted, queue::specs::Queue::refuse, queue::specs::Queue::collected_of, crate::specs::Calls::answered, crate::specs::Calls::flat_queue, crate::specs::Calls::flat_taken, crate::specs::Calls::unlent, crate::specs::Calls::submits, crate::specs::Calls::flat_submitted, crate::specs::Calls::confirms, crate::specs::Calls::flat_confirmed, crate::specs::Calls::drains, crate::specs::Calls::flat_collected, crate::specs::Calls::collects, crate::specs::Calls::sounds))]
 
 ghost use Rattle.std.specs.Prelude.{◌≡◌};

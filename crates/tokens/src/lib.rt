@@ -27,6 +27,7 @@ pub fn quiet(c: Core) -> Moved
 }
 
 // A token in Idle, to an address from another.
+// Kept: addresses are compared by their numbers; with the derived `==` the proof of this function did not close.
 #[tactic(auto, unfolding(choice::specs::Choice::pick, choice::specs::Choice::same, state::specs::Hold::token, state::specs::Hold::admit, state::specs::World::still, state::specs::World::with_core, state::specs::World::with_masters, state::specs::World::with_ps, state::specs::World::with_stranger, state::specs::Told::telling, state::specs::Told::untold, laid::specs::Laid::laid))]
 pub fn token(
     clock: BitTime,

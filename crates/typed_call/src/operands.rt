@@ -95,6 +95,7 @@ pub fn ts(line: &[u8]) -> Address
 }
 
 // The set of masters of start.
+// Kept: twins with `points`, as the sets are of two types and two sizes.
 #[tactic(auto, unfolding(typed::specs::Lists::listed, crate::specs::Operands::masters_of))]
 pub fn masters(line: &[u8]) -> Masters
     ensures { result.0 ≡ masters_of line.now }
