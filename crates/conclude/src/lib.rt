@@ -75,7 +75,7 @@ pub fn finish(
     ensures same { SameRows rows.old rows.new }
 {
     let core = close(o, x, c, marks, rows);
-    serve::choose(false, clock, core, masters, marks, rows, out)
+    serve::choose(false, clock, core, masters, marks, rows.shared(), out)
 }
 
 // A refused frame, any other reply or slot expiry while a reply is awaited: the same again, up to the limit of the
@@ -96,11 +96,11 @@ pub fn retry(
         (high_in rows.new) (low_in rows.new) out.new }
     ensures same { SameRows rows.old rows.new }
 {
-    let r = refusals::served(c, rows);
+    let r = refusals::served(c, rows.shared());
     if r.limit < c.doing.sendings {
         finish(Outcome::Lost, b"", clock, c, masters, marks, rows, out)
     } else {
-        serve::again(c, masters, marks, rows, out)
+        serve::again(c, masters, marks, rows.shared(), out)
     }
 }
 

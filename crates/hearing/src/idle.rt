@@ -3,14 +3,14 @@ ghost use Rattle.std.specs.Prelude.{◌≡◌, Ok, None};
 ghost use Rattle.frame.specs.Reading.{read as reading_read};
 ghost use Rattle.times.specs.Times.{Small};
 ghost use Rattle.state.specs.Calls.{responder as calls_responder, idle as calls_idle, idle_read};
-ghost use Rattle.state.specs.Told.{heard_by, high_in, low_in};
+ghost use Rattle.state.specs.Told.{heard_by, high_of, low_of};
 ghost use Rattle.hearing.specs.Hears.{Hears, Listening, Sound};
 
 use answering::Caller;
 use clock::BitTime;
 use control::Kind;
 use frame::{Fields, Part};
-use state::{Core, Heard, Indication, Kept, Moved, Responder, Rows, Spoken};
+use state::{Core, Heard, Indication, Kept, Moved, Responder, SharedRows, Spoken};
 use times::Sending;
 
 // What an act on the site leaves, as what was heard.
@@ -67,15 +67,15 @@ fn idle(
     marks: &[u8; 127],
     points: &[u8; 64],
     octets: &mut [u8; 255],
-    rows: &Rows,
+    rows: SharedRows,
     out: &mut [u8],
 ) -> Heard
     requires { (Sound f)
-        × (Listening c k (high_in rows.now) (low_in rows.now) caller.high.now caller.low.now out.old) }
+        × (Listening c k (high_of rows) (low_of rows) caller.high.now caller.low.now out.old) }
     ensures { Hears
         (calls_idle clock.0 caller.entry.room caller.entry.high.now caller.entry.low.now f p) c k
-        masters.old marks.now points.now octets.old (high_in rows.now) (low_in rows.now) out.old
-        (heard_by c k (Ok result)) masters.new marks.now octets.new (high_in rows.now) (low_in rows.now) out.new }
+        masters.old marks.now points.now octets.old (high_of rows.entry) (low_of rows.entry) out.old
+        (heard_by c k (Ok result)) masters.new marks.now octets.new (high_of rows.entry) (low_of rows.entry) out.new }
 {
     match f {
         Fields::Token {
@@ -107,14 +107,14 @@ pub fn idle_read(
     marks: &[u8; 127],
     points: &[u8; 64],
     octets: &mut [u8; 255],
-    rows: &Rows,
+    rows: SharedRows,
     out: &mut [u8],
 ) -> Heard
-    requires { Listening c k (high_in rows.now) (low_in rows.now) caller.high.now caller.low.now out.old }
+    requires { Listening c k (high_of rows) (low_of rows) caller.high.now caller.low.now out.old }
     ensures { Hears
         (idle_read clock.0 caller.entry.room caller.entry.high.now caller.entry.low.now (reading_read s.now)) c k
-        masters.old marks.now points.now octets.old (high_in rows.now) (low_in rows.now) out.old
-        (heard_by c k (Ok result)) masters.new marks.now octets.new (high_in rows.now) (low_in rows.now) out.new }
+        masters.old marks.now points.now octets.old (high_of rows.entry) (low_of rows.entry) out.old
+        (heard_by c k (Ok result)) masters.new marks.now octets.new (high_of rows.entry) (low_of rows.entry) out.new }
 {
     let Ok((f, p)) = read::read(s) else {
         return moved(tokens::quiet(c), k);

@@ -46,6 +46,16 @@ pub fn hear(
         Phase::Check => acts::with_doing(acts::resting(c.doing), c),
     };
     idle::idle_read(
-        clock, caller, s, core, k, masters, marks, points, octets, rows, out,
+        clock,
+        caller,
+        s,
+        core,
+        k,
+        masters,
+        marks,
+        points,
+        octets,
+        rows.shared(),
+        out,
     )
 }

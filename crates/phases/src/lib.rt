@@ -58,7 +58,7 @@ pub fn sent_in(
     match c.doing.phase {
         Phase::Idle | Phase::Awaited | Phase::Check => tokens::quiet(c),
         Phase::Sdn => conclude::finish(Outcome::Gone, b"", clock, c, masters, marks, rows, out),
-        Phase::ToSelf => serve::begin(clock, c, masters, marks, rows, out),
+        Phase::ToSelf => serve::begin(clock, c, masters, marks, rows.shared(), out),
     }
 }
 
@@ -83,7 +83,7 @@ pub fn awaited(
     let Ok((f, p)) = read::read(s) else {
         return conclude::retry(clock, c, masters, marks, rows, out);
     };
-    let r = refusals::served(c, rows);
+    let r = refusals::served(c, rows.shared());
     let verdict = judge::judge(c.ts, r, f, p.count);
     let x = view::data_of(s, p);
     conclude::conclude(clock, x, verdict, c, masters, marks, rows, out)

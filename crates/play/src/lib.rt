@@ -89,7 +89,7 @@ pub fn play(call: Call, s: State, line: &[u8], rows: &mut Rows, text: &mut [u8])
         Call::Sent => play_turns::sent(s, operands::clock(line), rows, text),
         Call::Slot => play_turns::slot(s, operands::clock(line), rows, text),
         Call::Reset => play_queues::reset(s, rows, text),
-        Call::Collect => play_queues::collect(s, operands::queue(line), rows, text),
+        Call::Collect => play_queues::collect(s, operands::queue(line), rows.shared(), text),
         Call::Show => Played {
             state: s,
             length: play_queues::show(s, text),

@@ -6,7 +6,7 @@ ghost use Rattle.laid.specs.Laid.{Lays};
 ghost use Rattle.printed.specs.Printed.{shown_line};
 ghost use Rattle.state.specs.World.{rows, world_of};
 ghost use Rattle.state.specs.Calls.{submit as calls_submit, collect as calls_collect, reset as calls_reset};
-ghost use Rattle.state.specs.Told.{leaves, lent, high_in, low_in, SameRows, accepted_by, handed_back_by};
+ghost use Rattle.state.specs.Told.{leaves, lent, high_in, low_in, high_of, low_of, SameRows, accepted_by, handed_back_by};
 ghost use Rattle.printed_lines.specs.Saying.{played, plain_of, handed_of, plain_line, handed_line};
 ghost use Rattle.play_queues.specs.Booked.{booked, booked_of};
 
@@ -15,7 +15,7 @@ use printed_lines::saying::Played;
 use printed_lines::{saying, shown};
 use refusal::Refusal;
 use request::Record;
-use state::{Accepted, HandedBack, Priority, Rows, State};
+use state::{Accepted, HandedBack, Priority, Rows, SharedRows, State};
 
 // Lays the line of what submit answered in a state.
 #[tactic(auto, unfolding(state::specs::Told::accepted_by, state::specs::Told::renewed_by))]
@@ -104,11 +104,11 @@ fn collect_from(s: State, p: Priority, row: &[u8], area: &[u8], text: &mut [u8])
 }
 
 // Collects the oldest confirmed record of a queue.
-pub fn collect(s: State, p: Priority, rows: &Rows, text: &mut [u8]) -> Played
+pub fn collect(s: State, p: Priority, rows: SharedRows, text: &mut [u8]) -> Played
     requires { 8192 ≤ length text.old }
-    ensures { leaves result (high_in rows.now) (low_in rows.now) text.new
+    ensures { leaves result (high_of rows.entry) (low_of rows.entry) text.new
         ≡ played (handed_of p)
-        (calls_collect p (world_of s (high_in rows.now) (low_in rows.now))) text.old }
+        (calls_collect p (world_of s (high_of rows.entry) (low_of rows.entry))) text.old }
 {
     match p {
         Priority::High => collect_from(s, Priority::High, rows.high, rows.high_area, text),

@@ -8,7 +8,7 @@ ghost use Rattle.ring.specs.Ring.{next_of};
 ghost use Rattle.request.specs.Record.{SIZE};
 ghost use Rattle.refusal.specs.Refusal.{refused};
 ghost use Rattle.state.specs.World.{queue_of};
-ghost use Rattle.state.specs.Told.{high_in, low_in};
+ghost use Rattle.state.specs.Told.{high_of, low_of};
 ghost use Rattle.state.specs.Refusals.{Lawful, odd_in, unlike_in, in_flight, refusal_in};
 ghost use Rattle.state.specs.Refusals.{unstartable as refusals_unstartable, unlent as refusals_unlent};
 ghost use Rattle.state.specs.Refusals.{cramped as refusals_cramped, unstarted as refusals_unstarted};
@@ -19,7 +19,7 @@ use frame::Address;
 use queue::Queue;
 use refusal::Refusal;
 use request::Record;
-use state::{Core, Kept, Phase, Priority, Rows, UPDATE};
+use state::{Core, Kept, Phase, Priority, SharedRows, UPDATE};
 use times::Settings;
 
 // Whether start refuses settings, TS or the set of masters.
@@ -120,20 +120,20 @@ pub fn in_flight(c: Core, high: &[u8], low: &[u8]) -> Record
 }
 
 // The same of the rows lent as one.
-pub fn served(c: Core, rows: &Rows) -> Record
+pub fn served(c: Core, rows: SharedRows) -> Record
     requires { (Lawful c)
-        × ((length rows.now.high.now ≡ SIZE * c.high.places) × (length rows.now.low.now ≡ SIZE * c.low.places)) }
-    ensures { result ≡ in_flight c rows.now.high.now rows.now.low.now }
+        × ((length rows.high.now ≡ SIZE * c.high.places) × (length rows.low.now ≡ SIZE * c.low.places)) }
+    ensures { result ≡ in_flight c rows.entry.high.now rows.entry.low.now }
 {
     in_flight(c, rows.high, rows.low)
 }
 
 // Whether an unconfirmed record is one that submit would refuse, or the record being sent is not the phase's: refusal
 // 29, by the records.
-fn unsound(c: Core, rows: &Rows) -> bool
+fn unsound(c: Core, rows: SharedRows) -> bool
     requires { (Lawful c)
-        × ((length rows.now.high.now ≡ SIZE * c.high.places) × (length rows.now.low.now ≡ SIZE * c.low.places)) }
-    ensures { result ≡ refusals_unsound c rows.now.high.now rows.now.low.now }
+        × ((length rows.high.now ≡ SIZE * c.high.places) × (length rows.low.now ≡ SIZE * c.low.places)) }
+    ensures { result ≡ refusals_unsound c rows.entry.high.now rows.entry.low.now }
 {
     !rows::sound(c.ts, c.high, rows.high)
         || !rows::sound(c.ts, c.low, rows.low)
@@ -149,10 +149,10 @@ pub fn refusal(
     masters: &[u8; 127],
     started: &[u8; 127],
     k: Kept,
-    rows: &Rows,
+    rows: SharedRows,
 ) -> Result<(), Refusal>
     ensures { refused result
-        ≡ refusal_in out first second c masters.now started.now k (high_in rows.now) (low_in rows.now) }
+        ≡ refusal_in out first second c masters.now started.now k (high_of rows.entry) (low_of rows.entry) }
 {
     if unlent(c.high, rows.high, rows.high_area) || unlent(c.low, rows.low, rows.low_area) {
         return Err(Refusal::Row);

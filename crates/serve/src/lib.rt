@@ -11,13 +11,13 @@ ghost use Rattle.state.specs.Request.{send as request_send, again as request_aga
 ghost use Rattle.state.specs.Pass.{pass_core, pass_events};
 ghost use Rattle.state.specs.Hold.{choose as hold_choose, begin as hold_begin};
 ghost use Rattle.state.specs.Refusals.{Lawful, Sited, Ready};
-ghost use Rattle.state.specs.Told.{Sends, Does, high_in, low_in, site_in};
+ghost use Rattle.state.specs.Told.{Sends, Does, high_of, low_of, site_of_shared};
 
 pub mod exchange;
 
 use clock::BitTime;
 use frame::Address;
-use state::{Choice, Core, Moved, Priority, Rows};
+use state::{Choice, Core, Moved, Priority, SharedRows};
 use times::Sending;
 
 // Lays the first unconfirmed request of a queue.
@@ -92,13 +92,19 @@ fn send_again(
 
 // Sends the same octets again.
 #[tactic(auto, unfolding(state::specs::Request::again, state::specs::Request::again_of, state::specs::World::rows_of, state::specs::World::done, state::specs::World::with_core))]
-pub fn again(c: Core, masters: &[u8; 127], marks: &[u8; 127], rows: &Rows, out: &mut [u8]) -> Moved
-    requires { (Sited c (high_in rows.now) (low_in rows.now))
+pub fn again(
+    c: Core,
+    masters: &[u8; 127],
+    marks: &[u8; 127],
+    rows: SharedRows,
+    out: &mut [u8],
+) -> Moved
+    requires { (Sited c (high_of rows) (low_of rows))
         × ((0 < (queue_of c.doing.served c).unconfirmed)
         × ((c.doing.sendings < 255) × (255 ≤ length out.old))) }
     ensures { Does
-        (request_again (site_in c masters.now marks.now rows.now)) out.old result masters.now
-        marks.now (high_in rows.now) (low_in rows.now) out.new }
+        (request_again (site_of_shared c masters.now marks.now rows.entry)) out.old result masters.now
+        marks.now (high_of rows.entry) (low_of rows.entry) out.new }
 {
     match c.doing.served {
         Priority::High => send_again(Priority::High, c, marks, rows.high, rows.high_area, out),
@@ -113,14 +119,14 @@ fn serve(
     c: Core,
     masters: &[u8; 127],
     marks: &[u8; 127],
-    rows: &Rows,
+    rows: SharedRows,
     out: &mut [u8],
 ) -> Moved
-    requires { (Sited c (high_in rows.now) (low_in rows.now))
+    requires { (Sited c (high_of rows) (low_of rows))
         × ((0 < (queue_of p c).unconfirmed) × (255 ≤ length out.old)) }
     ensures { Does
-        (request_send p (site_in c masters.now marks.now rows.now)) out.old result masters.now
-        marks.now (high_in rows.now) (low_in rows.now) out.new }
+        (request_send p (site_of_shared c masters.now marks.now rows.entry)) out.old result masters.now
+        marks.now (high_of rows.entry) (low_of rows.entry) out.new }
 {
     match p {
         Priority::High => send(Priority::High, c, marks, rows.high, rows.high_area, out),
@@ -161,13 +167,13 @@ pub fn choose(
     c: Core,
     masters: &[u8; 127],
     marks: &[u8; 127],
-    rows: &Rows,
+    rows: SharedRows,
     out: &mut [u8],
 ) -> Moved
-    requires { (Sited c (high_in rows.now) (low_in rows.now)) × (255 ≤ length out.old) }
+    requires { (Sited c (high_of rows) (low_of rows)) × (255 ≤ length out.old) }
     ensures { Does
-        (hold_choose starts clock.0 (site_in c masters.now marks.now rows.now)) out.old result masters.now
-        marks.now (high_in rows.now) (low_in rows.now) out.new }
+        (hold_choose starts clock.0 (site_of_shared c masters.now marks.now rows.entry)) out.old result masters.now
+        marks.now (high_of rows.entry) (low_of rows.entry) out.new }
 {
     match acts::choice(starts, c, clock) {
         Choice::Serve(p) => serve(p, c, masters, marks, rows, out),
@@ -182,13 +188,13 @@ pub fn begin(
     c: Core,
     masters: &[u8; 127],
     marks: &[u8; 127],
-    rows: &Rows,
+    rows: SharedRows,
     out: &mut [u8],
 ) -> Moved
-    requires { (Sited c (high_in rows.now) (low_in rows.now)) × (255 ≤ length out.old) }
+    requires { (Sited c (high_of rows) (low_of rows)) × (255 ≤ length out.old) }
     ensures { Does
-        (hold_begin clock.0 (site_in c masters.now marks.now rows.now)) out.old result masters.now
-        marks.now (high_in rows.now) (low_in rows.now) out.new }
+        (hold_begin clock.0 (site_of_shared c masters.now marks.now rows.entry)) out.old result masters.now
+        marks.now (high_of rows.entry) (low_of rows.entry) out.new }
 {
     choose(
         true,

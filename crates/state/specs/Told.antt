@@ -7,6 +7,7 @@ use Rattle.request.specs.Record.{WAITING}
 use Rattle.frame.specs.Access.{NONE}
 use Rattle.state.specs.declared.Indication.{Indication}
 use Rattle.state.specs.declared.Rows.{Rows as LentRows}
+use Rattle.state.specs.declared.SharedRows.{SharedRows}
 use Rattle.std.specs.Prelude.{Option, None, Some, Result, Ok, Err}
 use Rattle.clock.specs.declared.BitTime.{BitTime}
 use Rattle.refusal.specs.declared.Refusal.{Refusal}
@@ -120,6 +121,16 @@ low_in l = rows l.low.now l.low_area.now
 
 abbrev pub site_in : Core → List ℕ → List ℕ → LentRows → Site
 site_in c masters marks l = site_of c masters marks (high_in l) (low_in l)
+
+-- the same of what is lent to be read alone
+abbrev pub high_of : SharedRows → Rows
+high_of l = rows l.high.now l.high_area.now
+
+abbrev pub low_of : SharedRows → Rows
+low_of l = rows l.low.now l.low_area.now
+
+abbrev pub site_of_shared : Core → List ℕ → List ℕ → SharedRows → Site
+site_of_shared c masters marks l = site_of c masters marks (high_of l) (low_of l)
 
 -- the same memory is lent after a call as before it
 abbrev pub SameRows : LentRows → LentRows → Type 0

@@ -2,6 +2,8 @@
 // specs/. Assumes nothing.
 #![tactic(auto)]
 
+ghost use Rattle.std.specs.Prelude.{◌≡◌};
+
 use clock::BitTime;
 use control::{Code, Kind};
 use frame::{Address, Head, Part};
@@ -107,6 +109,31 @@ pub struct Rows<'a> {
     pub high_area: &'a mut [u8],
     pub low: &'a mut [u8],
     pub low_area: &'a mut [u8],
+}
+
+// The same where they are only read.
+#[derive(Clone, Copy)]
+pub struct SharedRows<'a> {
+    pub high: &'a [u8],
+    pub high_area: &'a [u8],
+    pub low: &'a [u8],
+    pub low_area: &'a [u8],
+}
+
+impl Rows<'_> {
+    // The rows, to be read.
+    pub fn shared(&self) -> SharedRows<'_>
+        ensures { (result.high.now ≡ self.now.high.now)
+            × ((result.high_area.now ≡ self.now.high_area.now)
+            × ((result.low.now ≡ self.now.low.now) × (result.low_area.now ≡ self.now.low_area.now))) }
+    {
+        SharedRows {
+            high: self.high,
+            high_area: self.high_area,
+            low: self.low,
+            low_area: self.low_area,
+        }
+    }
 }
 
 // A request that the station shows its caller: its fields, and where its data lie in the frame.

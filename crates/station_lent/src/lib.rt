@@ -43,7 +43,7 @@ pub fn frame(
         masters,
         started,
         k,
-        rows,
+        rows.shared(),
     )?;
     Ok(hearing::hear(
         clock, caller, s, c, k, masters, marks, points, octets, rows, out,
@@ -66,7 +66,7 @@ pub fn sent(
         (high_in rows.new) (low_in rows.new) out.new }
     ensures same { SameRows rows.old rows.new }
 {
-    refusals::refusal(out.len(), 0, 0, c, masters, started, k, rows)?;
+    refusals::refusal(out.len(), 0, 0, c, masters, started, k, rows.shared())?;
     let m = phases::sent_in(clock, c, masters, marks, rows, out);
     Ok(hearing::idle::moved(m, k))
 }
@@ -87,7 +87,7 @@ pub fn slot(
         (high_in rows.new) (low_in rows.new) out.new }
     ensures same { SameRows rows.old rows.new }
 {
-    refusals::refusal(out.len(), 0, 0, c, masters, started, k, rows)?;
+    refusals::refusal(out.len(), 0, 0, c, masters, started, k, rows.shared())?;
     let m = phases::slot_in(clock, c, masters, marks, rows, out);
     Ok(hearing::idle::moved(m, k))
 }

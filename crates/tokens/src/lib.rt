@@ -7,12 +7,12 @@ ghost use Rattle.state.specs.Request.{once, wait_for};
 ghost use Rattle.state.specs.Pass.{token_to, ps_without};
 ghost use Rattle.state.specs.Hold.{token as hold_token};
 ghost use Rattle.state.specs.Refusals.{Lawful, Sited};
-ghost use Rattle.state.specs.Told.{Sends, Does, Rechecks, high_in, low_in, site_in};
+ghost use Rattle.state.specs.Told.{Sends, Does, Rechecks, high_of, low_of, site_of_shared};
 
 use clock::BitTime;
 use frame::Address;
 use serve::exchange;
-use state::{Core, Moved, Rows};
+use state::{Core, Moved, SharedRows};
 use times::Sending;
 
 // Nothing is sent.
@@ -36,13 +36,13 @@ pub fn token(
     c: Core,
     masters: &mut [u8; 127],
     marks: &[u8; 127],
-    rows: &Rows,
+    rows: SharedRows,
     out: &mut [u8],
 ) -> Moved
-    requires { (Sited c (high_in rows.now) (low_in rows.now)) × (255 ≤ length out.old) }
+    requires { (Sited c (high_of rows) (low_of rows)) × (255 ≤ length out.old) }
     ensures { Does
-        (hold_token clock.0 d.0 a.0 (site_in c masters.old marks.now rows.now)) out.old result masters.new
-        marks.now (high_in rows.now) (low_in rows.now) out.new }
+        (hold_token clock.0 d.0 a.0 (site_of_shared c masters.old marks.now rows.entry)) out.old result masters.new
+        marks.now (high_of rows.entry) (low_of rows.entry) out.new }
 {
     if d.0 != c.ts.0 || a.0 == c.ts.0 {
         quiet(c)

@@ -18,6 +18,8 @@ returns-in-Awaited-clause-hears c =
 pub idle_read-requires : goal.idle_read-requires
 idle_read-requires c =
     let p = c.requires.0 in
+    let s = c.shared.ensures in
+    rw (s.0, s.1.0, s.1.1.0, s.1.1.1)
     elim c.match-c.branch [
       | in-Idle w ↦ rw w.core-is p
       | in-Check w ↦ rw (w.core-is, w.with_doing-core.ensures, w.resting.ensures) (listening-resting p)
@@ -26,12 +28,14 @@ idle_read-requires c =
 pub returns-clause-hears : goal.returns-clause-hears
 unfolding heard_by
 returns-clause-hears c =
+    let s = c.shared.ensures in
     record {
       told = λ t.
+          let i = rw (s.0, s.1.0, s.1.1.0, s.1.1.1) at (c.idle_read.ensures.told t) in
           elim c.match-c.branch [
-            | in-Idle w ↦ rw (heard-idle _ _ _ _ _ _ w.in-Idle.is) (rw w.core-is at (c.idle_read.ensures.told t))
+            | in-Idle w ↦ rw (heard-idle _ _ _ _ _ _ w.in-Idle.is) (rw w.core-is at i)
             | in-Check w ↦
                 rw (heard-check _ _ _ _ _ _ _ _ _ _ _ _ _ _ w.in-Check.is (w.core-is ∙ (rw w.resting.ensures at w.with_doing-core.ensures)))
-                (c.idle_read.ensures.told t)
+                i
           ];
     }

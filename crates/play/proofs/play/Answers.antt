@@ -53,8 +53,9 @@ returns-in-Reset-clause-played c =
 pub returns-in-Collect-clause-played : goal.returns-in-Collect-clause-played
 unfolding played_by named_by printed_by call
 returns-in-Collect-clause-played c =
+    let s = c.shared.ensures in
     rw (c.in-Collect.is, run-one)
-    (rw c.queue.ensures at c.collect.ensures)
+    (rw (c.queue.ensures, s.0, s.1.0, s.1.1.0, s.1.1.1) at c.collect.ensures)
 
 pub returns-in-Show-clause-played : goal.returns-in-Show-clause-played
 unfolding played_by named_by printed_by run world_of

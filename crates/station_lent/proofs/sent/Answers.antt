@@ -11,22 +11,25 @@ use Rattle.station_lent.proofs.sent.Goals as goal
 pub returns-in_err-refusal-clause-acts : goal.returns-in_err-refusal-clause-acts
 unfolding refused
 returns-in_err-refusal-clause-acts c =
+    let s = c.shared.ensures in
     let p = err_from_is_err_and c.from_residual.result c.from_residual.ensures.1 in
     record {
-      told = λ a o. rw (sent-denied _ _ _ _ _ _ _ _ _ _ _ c.in_err-refusal.ensures (numbered _))
+      told = λ a o. rw (sent-denied _ _ _ _ _ _ _ _ _ _ _ (rw (s.0, s.1.0, s.1.1.0, s.1.1.1) at c.in_err-refusal.ensures) (numbered _))
           (stands-refused _ (heard-refused _ _ _ (rw p.2 at p.1)));
     }
 
 pub sent_in-m-requires : goal.sent_in-m-requires
 unfolding refused
 sent_in-m-requires c =
-    let e = sym c.in_ok-refusal.ensures in
+    let s = c.shared.ensures in
+    let e = sym (rw (s.0, s.1.0, s.1.1.0, s.1.1.1) at c.in_ok-refusal.ensures) in
     (sited _ _ _ _ _ _ _ _ _ e, (underway _ _ _ _ _ _ _ _ _ e, output-long _ _ _ _ _ _ _ _ _ e))
 
 pub returns-clause-acts : goal.returns-clause-acts
 unfolding refused
 returns-clause-acts c =
+    let s = c.shared.ensures in
     record {
-      told = λ a o. rw (sent-granted _ _ _ _ _ _ _ _ _ _ _ c.in_ok-refusal.ensures refl)
+      told = λ a o. rw (sent-granted _ _ _ _ _ _ _ _ _ _ _ (rw (s.0, s.1.0, s.1.1.0, s.1.1.1) at c.in_ok-refusal.ensures) refl)
           (stands-does _ _ _ _ _ _ (calm-sent _ _ _) c.sent_in-m.ensures.does (heard-moved _ _ _ _ c.moved.ensures));
     }
