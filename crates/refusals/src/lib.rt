@@ -135,9 +135,9 @@ fn unsound(c: Core, rows: SharedRows) -> bool
         × ((length rows.high.now ≡ SIZE * c.high.places) × (length rows.low.now ≡ SIZE * c.low.places)) }
     ensures { result ≡ refusals_unsound c rows.entry.high.now rows.entry.low.now }
 {
-    !rows::sound(c.ts, c.high, rows.high)
+    unlike(c.doing.phase, served(c, rows).service)
+        || !rows::sound(c.ts, c.high, rows.high)
         || !rows::sound(c.ts, c.low, rows.low)
-        || unlike(c.doing.phase, served(c, rows).service)
 }
 
 // The refusal of frame, sent and slot, with an output and two updates of those lengths.
