@@ -26,6 +26,7 @@ fn answer_again(responder: Responder, k: Kept, octets: &[u8; 255], out: &mut [u8
 
 // Answers a counted request: an SDA, or an SRD.
 #[tactic(auto, unfolding(choice::specs::Choice::pick, choice::specs::Choice::said, state::specs::Answering::answered, state::specs::Answering::answer_counted))]
+#[inline(always)]
 pub fn answer_counted(
     responder: Responder,
     points: &[u8; 64],

@@ -54,6 +54,7 @@ fn lay_short(out: &mut [u8]) -> usize
 
 // Lays what is given to a request, and gives its count of octets.
 #[tactic(auto, unfolding(choice::specs::Choice::pick, state::specs::Answering::reply_octets))]
+#[inline(always)]
 pub fn lay_reply(responder: Responder, h: Head, g: Given, x: &[u8], out: &mut [u8]) -> usize
     requires { (responder.ts.0 ≤ 126)
         × ((Answerable h) × ((length x.now ≤ UPDATE) × (255 ≤ length out.old))) }

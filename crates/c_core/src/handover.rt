@@ -253,6 +253,7 @@ pub fn started(a: Result<State, Refusal>) -> FlatRenewed
 
 // An answer of frame, sent or slot.
 #[tactic(auto, using(crate::proofs::handover::Standing::core_steps), unfolding(crate::specs::Handover::flat_answer, state::specs::Told::heard_by))]
+#[inline(always)]
 pub fn answer(n: Numbers, a: Result<Heard, Refusal>) -> FlatAnswer
     ensures { (c : Core) (k : Kept) → result ≡ flat_answer n (heard_by c k a) }
 {
