@@ -7,15 +7,18 @@ use mathlib.Core.Path.{◌≡◌, refl, sym, ◌∙◌}
 use native.Mathlib.Decide.{ℕ_discrete}
 use native.Mathlib.Omega.{arith}
 use lib.ListN.{length, drop}
+use Rattle.std.specs.Prelude.{Result}
 use Rattle.choice.specs.Choice.{pick, same}
 use Rattle.choice.proofs.Rules.{passed, false-less}
+use Rattle.refusal.specs.declared.Refusal.{Refusal}
 use Rattle.frame.specs.declared.Part.{Part}
 use Rattle.frame.specs.declared.Fields.{Fields}
 use Rattle.frame.specs.declared.Fields.TheVariants.{Token, Short, Frame}
 use Rattle.frame.specs.Reading.{Answer}
-use Rattle.frame.specs.Reading.{Read}
+use Rattle.frame.specs.Reading.{Read, answered}
+use Rattle.frame.proofs.Results.{answered-same, wrote-same}
 use Rattle.frame.specs.Format.{Written}
-use Rattle.frame.specs.Format.{Refused, Count}
+use Rattle.frame.specs.Format.{Refused, Count, wrote}
 use Rattle.frame.specs.Format.{octets, unit, body, sd2, unwritable, unwritable_token, refused, written, left, SD2, SD3}
 use Rattle.frame.specs.Reading.{read, plain, refusal, shown, octet}
 use Rattle.frame_laws.specs.Terms.{Octets, carried, flip, Summed, Twins}
@@ -105,3 +108,15 @@ one-read s e f = e ∙ sym f
 pub one_written : (f : Fields) (x out : List ℕ) {a b : Written} {o o' : List ℕ} → a ≡ written f x out
     → o ≡ left f x out → b ≡ written f x out → o' ≡ left f x out → (a ≡ b) × (o ≡ o')
 one_written f x out e i g j = (e ∙ sym g, i ∙ sym j)
+
+-- the same of what the code answers, by the functions' own contracts: the reader's and the writers'
+pub one-read-result : (s : List ℕ) {a b : Result (Fields × Part) Refusal} → answered a ≡ read s → answered b ≡ read s
+    → a ≡ b
+one-read-result s {a = a} {b = b} e f = answered-same a b (one-read s e f)
+
+pub one-written-result : (f : Fields) (x out : List ℕ) {a b : Result ℕ Refusal} {o o' : List ℕ}
+    → wrote a ≡ written f x out → o ≡ left f x out → wrote b ≡ written f x out → o' ≡ left f x out
+    → (a ≡ b) × (o ≡ o')
+one-written-result f x out {a = a} {b = b} e i g j =
+    let w = one_written f x out e i g j in
+    (wrote-same a b w.0, w.1)

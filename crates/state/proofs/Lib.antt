@@ -50,3 +50,4 @@ pub mod Confirmed
 pub mod Ledger
 pub mod Retries
 pub mod Masters
+pub mod Results

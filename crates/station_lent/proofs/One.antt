@@ -1,17 +1,9 @@
 -- One result: two answers that meet a contract of the station's records, with what they leave in everything lent, are
 -- equal. Assumes nothing.
 use Prim.Native.Nat.{ℕ}
-use mathlib.Core.Path.{◌≡◌, refl, sym, ap, ◌∙◌}
+use mathlib.Core.Path.{◌≡◌, sym, ap, ◌∙◌}
 use mathlib.Core.List.{List, []}
-use native.Mathlib.Omega.{arith}
-use Rattle.choice.specs.Choice.{pick, same}
 use Rattle.refusal.specs.declared.Refusal.{Refusal}
-use Rattle.refusal.specs.declared.Refusal.TheVariants.{Empty, NoStart, Short, Length, Count, End, Checksum, Address}
-use Rattle.refusal.specs.declared.Refusal.TheVariants.{Control, Point, ToAll, Unit, Output, Setting, Row, Room}
-use Rattle.refusal.specs.declared.Refusal.TheVariants.{Destination, AccessPoint, Service, Data, Full, NoneConfirmed}
-use Rattle.refusal.specs.declared.Refusal.TheVariants.{State, Limit}
-use Rattle.refusal.specs.Refusal.{number}
-use Rattle.refusal.proofs.Numbers.{above_zero}
 use Rattle.laid.specs.Laid.{Lays}
 use Rattle.state.specs.declared.Core.{Core}
 use Rattle.state.specs.declared.Kept.{Kept}
@@ -24,55 +16,21 @@ use Rattle.state.specs.declared.Spoken.{Spoken}
 use Rattle.state.specs.declared.Outcome.{Outcome}
 use Rattle.state.specs.World.{Rows, Site, World, Event, Done, Called, rows}
 use Rattle.state.specs.Told.{Stands, stands, Sends, Does, Rechecks, Closes, Says}
+use Rattle.state.proofs.Results.{heard-same}
 use Rattle.hearing.specs.Hears.{Hears}
 use Rattle.station_lent.specs.Acts.{Acts}
 
 -- ---- what the code answers is told apart by its answer as a record: a refusal by its number
-abbrev named : ℕ → Refusal
-named n =
-    pick (same n 1) Empty (pick (same n 2) NoStart (pick (same n 3) Short (pick (same n 4) Length (
-    pick (same n 5) Count (pick (same n 6) End (pick (same n 7) Checksum (pick (same n 8) Address (
-    pick (same n 9) Control (pick (same n 10) Point (pick (same n 11) ToAll (pick (same n 12) Unit (
-    pick (same n 13) Output (pick (same n 20) Setting (pick (same n 21) Row (pick (same n 22) Room (
-    pick (same n 23) Destination (pick (same n 24) AccessPoint (pick (same n 25) Service (
-    pick (same n 26) Data (pick (same n 27) Full (pick (same n 28) NoneConfirmed (pick (same n 29) State (
-    Limit)))))))))))))))))))))))
-
-named-number : (r : Refusal) → named (number r) ≡ r
-unfolding number pick same
-named-number Empty = refl
-named-number NoStart = refl
-named-number Short = refl
-named-number Length = refl
-named-number Count = refl
-named-number End = refl
-named-number Checksum = refl
-named-number Address = refl
-named-number Control = refl
-named-number Point = refl
-named-number ToAll = refl
-named-number Unit = refl
-named-number Output = refl
-named-number Setting = refl
-named-number Row = refl
-named-number Room = refl
-named-number Destination = refl
-named-number AccessPoint = refl
-named-number Service = refl
-named-number Data = refl
-named-number Full = refl
-named-number NoneConfirmed = refl
-named-number State = refl
-named-number Limit = refl
-
 pub one-heard : (c : Core) (k : Kept) (a b : Result GivenHeard Refusal) → heard_by c k a ≡ heard_by c k b → a ≡ b
-unfolding heard_by
-one-heard c k (Ok a) (Ok b) e =
-    ap (λ (h : Heard). Ok (record { core = h.core; kept = h.kept; length = h.length; wait = h.wait; indication = h.indication })) e
-one-heard c k (Err r) (Err s) e =
-    ap (λ (x : Refusal). Err x) (sym (named-number r) ∙ ap (λ (h : Heard). named h.refused) e ∙ named-number s)
-one-heard c k (Ok a) (Err s) e = absurd (omega (arith, above_zero s, ap (λ (h : Heard). h.refused) e))
-one-heard c k (Err r) (Ok b) e = absurd (omega (arith, above_zero r, ap (λ (h : Heard). h.refused) e))
+one-heard c k a b e = heard-same c k a b e
+
+given-in : GivenHeard → Result GivenHeard Refusal → GivenHeard
+given-in d (Ok a) = a
+given-in d (Err r) = d
+
+same-given : (a b : GivenHeard) → ◌≡◌ {A = Result GivenHeard Refusal} (Ok a) (Ok b) → a ≡ b
+unfolding given-in
+same-given a b e = ap (given-in a) e
 
 -- ---- sent and slot expired: the answer, the masters, the marks, both rows with their data, and the output
 pub record OneResult (r q : Heard) (masters masters' marks marks' : List ℕ) (high high' low low' : Rows)
@@ -103,6 +61,15 @@ module _ {f : World → Called} {c : Core} {k : Kept} {masters started marks : L
         → Acts f c k masters started marks high low out q m' n' h' l' x' → OneResult r q m m' n n' h h' l l' x x'
     one-act a b = one_of (a.told [] [] ∙ sym (b.told [] []))
 
+    -- the same of the `Result`s that the code answers
+    pub one-act-result : {r q : Result GivenHeard Refusal} {m m' n n' : List ℕ} {h h' l l' : Rows} {x x' : List ℕ}
+        → Acts f c k masters started marks high low out (heard_by c k r) m n h l x
+        → Acts f c k masters started marks high low out (heard_by c k q) m' n' h' l' x'
+        → (r ≡ q) × (m ≡ m') × (n ≡ n') × (h ≡ h') × (l ≡ l') × (x ≡ x')
+    one-act-result {r = r} {q = q} a b =
+        let w = one-act a b in
+        (one-heard c k r q w.answer, w.masters-are, w.marks-are, w.high_is, w.low-is, w.out-is)
+
 -- ---- a frame by its phase: the same, with the octets of the remembered reply
 module _ {f : World → Called} {c : Core} {k : Kept} {masters marks points octets : List ℕ} {high low : Rows}
     {out : List ℕ} where
@@ -120,6 +87,15 @@ module _ {f : World → Called} {c : Core} {k : Kept} {masters marks points octe
         ap (λ (s : Stands). s.low) e,
         ap (λ (s : Stands). s.out) e,
       )
+
+  -- the same of what the code answers, which is not refused there
+  pub one-hearing-result : {r q : GivenHeard} {m m' n n' o o' : List ℕ} {h h' l l' : Rows} {x x' : List ℕ}
+      → Hears f c k masters marks points octets high low out (heard_by c k (Ok r)) m n o h l x
+      → Hears f c k masters marks points octets high low out (heard_by c k (Ok q)) m' n' o' h' l' x'
+      → (r ≡ q) × (m ≡ m') × (n ≡ n') × (o ≡ o') × (h ≡ h') × (l ≡ l') × (x ≡ x')
+  one-hearing-result {r = r} {q = q} a b =
+      let w = one-hearing a b in
+      (same-given r q (one-heard c k (Ok r) (Ok q) w.1), w.2, w.3, w.0, w.4, w.5, w.6)
 
 -- ---- the inner functions: an act on the site, and an answer
 pub one-laying : {l u m m' : List ℕ} {at n r q : ℕ} → Lays l at u n r m → Lays l at u n q m' → (r ≡ q) × (m ≡ m')
