@@ -51,3 +51,4 @@ pub mod Ledger
 pub mod Retries
 pub mod Masters
 pub mod Results
+pub mod Returned

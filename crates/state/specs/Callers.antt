@@ -47,7 +47,7 @@ unfoldable pub keeping : Priority → State → Rows → Keeps → Keeps
 keeping High s r k = record { state = s; high = r; low = k.low }
 keeping Low s r k = record { state = s; high = k.high; low = r }
 
--- what a function answers; frame, sent and slot with what they leave in the output
+-- what a call answers, as the definitions have it; frame, sent and slot with what they leave in the output
 pub data Reply : Type 0 where
   takes : Accepted → Reply
   turns : Answer → List ℕ → Reply
@@ -55,8 +55,8 @@ pub data Reply : Type 0 where
   hands : HandedBack → Reply
 
 -- one call: what is kept, the call, the output lent for it (none is empty), the answer, and what is kept then. The
--- premise of each is the promise of the function of its name, word for word, of what it was given and what it left;
--- submit and collect are lent one queue's row
+-- premise of each is the promise of the function of its name, its `Result` read as the definitions' answer, of what it
+-- was given and what it left (Returned.antt has the contracts word for word); submit and collect are lent one queue's row
 pub data Makes (k : Keeps) : Call → List ℕ → Reply → Keeps → Type 0 where
   by-submit : (p : Priority) (r : Record) (x : List ℕ) {a : Accepted} {row area : List ℕ}
       → left a row area ≡ submitted_of p (Calls.submit p r x (lent p k.state (row_for p k)))

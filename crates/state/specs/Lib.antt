@@ -14,6 +14,7 @@ pub mod Waits
 pub mod Precedence
 pub mod Holds
 pub mod Callers
+pub mod Returned
 pub mod Submitted
 pub mod Retries
 pub mod Masters
