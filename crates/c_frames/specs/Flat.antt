@@ -1,5 +1,5 @@
 -- What the C boundary hands over: answers as structs of numbers. 255 stands for "no access point". Assumes nothing.
-use Rattle.std.specs.Prelude.{ℕ, List}
+use Rattle.std.specs.Prelude.{ℕ, List, Result, Ok, Err}
 use Rattle.choice.specs.Choice.{pick, less, said}
 use Rattle.frame.specs.declared.Head.{Head}
 use Rattle.frame.specs.declared.Fields.{Fields}
@@ -78,6 +78,11 @@ head_from destination to source from control =
 
 abbrev pub token_from : ℕ → ℕ → Fields
 token_from destination source = Token (record { 0 = destination }) (record { 0 = source })
+
+-- an answer of the writer by number: the octets written, or the number of the refusal
+unfoldable pub counted : Result ℕ ℕ → Written
+counted (Ok n) = Count n
+counted (Err n) = WrittenRefused n
 
 -- an answer of the writer
 unfoldable pub flat_written : Written → FlatWritten

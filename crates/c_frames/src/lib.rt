@@ -3,10 +3,9 @@
 #![tactic(auto)]
 
 ghost use Rattle.std.specs.Prelude.{◌≡◌};
-ghost use Rattle.refusal.specs.Refusal.{number};
-ghost use Rattle.frame.specs.Format.{wrote};
 ghost use Rattle.frame.specs.Reading.{Refused, Read, read as reading_read};
-ghost use Rattle.c_frames.specs.Flat.{flat as flat_flat, flat_written, unlisted as flat_unlisted, writes, leaves};
+ghost use Rattle.c_frames.specs.Flat.{flat as flat_flat, flat_written, counted, unlisted as flat_unlisted};
+ghost use Rattle.c_frames.specs.Flat.{writes, leaves};
 
 use frame::{Address, Fields, Head, NONE, Part, Point};
 use refusal::Refusal;
@@ -50,10 +49,9 @@ const NOTHING: FlatFrame = FlatFrame {
 
 // A refused reading.
 #[tactic(auto, unfolding(crate::specs::Flat::flat))]
-pub fn refused(r: Refusal) -> FlatFrame
-    ensures { result ≡ flat_flat (Refused (number r)) }
+pub fn refused(refused: u8) -> FlatFrame
+    ensures { result ≡ flat_flat (Refused refused) }
 {
-    let refused = r.number();
     FlatFrame { refused, ..NOTHING }
 }
 
@@ -90,32 +88,26 @@ pub fn fields(f: Fields, p: Part) -> FlatFrame
     }
 }
 
-// An answer of the writer.
-#[tactic(auto, unfolding(crate::specs::Flat::flat_written, frame::specs::Format::wrote))]
-pub fn written(w: Result<usize, Refusal>) -> FlatWritten
-    ensures { result ≡ flat_written (wrote w) }
+// An answer of the writer, refused by number.
+#[tactic(auto, unfolding(crate::specs::Flat::flat_written, crate::specs::Flat::counted))]
+pub fn written(w: Result<usize, u8>) -> FlatWritten
+    ensures { result ≡ flat_written (counted w) }
 {
     match w {
-        Ok(n) => FlatWritten {
-            refused: 0,
-            count: n,
-        },
-        Err(r) => FlatWritten {
-            refused: r.number(),
-            count: 0,
-        },
+        Ok(count) => FlatWritten { refused: 0, count },
+        Err(refused) => FlatWritten { refused, count: 0 },
     }
 }
 
 // The refusal of a frame whose FC is not listed: 8 goes before 9.
-#[tactic(auto, unfolding(choice::specs::Choice::pick, choice::specs::Choice::less, refusal::specs::Refusal::number, frame::specs::Format::wrote, crate::specs::Flat::flat_written, crate::specs::Flat::unlisted))]
+#[tactic(auto, unfolding(choice::specs::Choice::pick, choice::specs::Choice::less, refusal::specs::Refusal::number, crate::specs::Flat::flat_written, crate::specs::Flat::counted, crate::specs::Flat::unlisted))]
 pub fn unlisted(destination: u8, source: u8) -> FlatWritten
     ensures { result ≡ flat_unlisted destination source }
 {
     if 126 < source || 127 < destination {
-        written(Err(Refusal::Address))
+        written(Err(Refusal::Address.number()))
     } else {
-        written(Err(Refusal::Control))
+        written(Err(Refusal::Control.number()))
     }
 }
 
@@ -126,12 +118,12 @@ pub fn reading(octets: &[u8]) -> FlatFrame
 {
     match read::read(octets) {
         Ok((f, p)) => fields(f, p),
-        Err(r) => refused(r),
+        Err(r) => refused(r.number()),
     }
 }
 
 // Writes a frame with a control octet.
-#[tactic(auto, unfolding(choice::specs::Choice::pick, choice::specs::Choice::same, choice::specs::Choice::said, control::specs::Control::listed, crate::specs::Flat::head_from, crate::specs::Flat::writes, crate::specs::Flat::leaves))]
+#[tactic(auto, unfolding(choice::specs::Choice::pick, choice::specs::Choice::same, choice::specs::Choice::said, control::specs::Control::listed, frame::specs::Format::wrote, crate::specs::Flat::head_from, crate::specs::Flat::counted, crate::specs::Flat::writes, crate::specs::Flat::leaves))]
 pub fn writing(
     destination: u8,
     to: u8,
@@ -156,5 +148,5 @@ pub fn writing(
         from: frame::access_of(Point(from)),
         control: c,
     };
-    written(write::write_frame(h, data, out))
+    written(write::write_frame(h, data, out).map_err(Refusal::number))
 }

@@ -24,6 +24,7 @@ use c_core::handover::{FlatAccepted, FlatAnswer, FlatCollected, FlatRenewed};
 use c_core::numbers::{FlatSettings, Numbers};
 use c_frames::{FlatFrame, FlatWritten};
 use frame::{Address, Fields};
+use refusal::Refusal;
 use state::{Priority, Rows};
 
 // Reads a frame.
@@ -53,21 +54,24 @@ pub extern "C" fn cihlomet_write(
 }
 
 // Writes a token.
+#[tactic(auto, unfolding(frame::specs::Format::wrote, c_frames::specs::Flat::counted))]
 #[unsafe(no_mangle)]
 pub extern "C" fn cihlomet_token(destination: u8, source: u8, out: &mut [u8]) -> FlatWritten
     ensures value { result ≡ flat_written (written (token_from destination source) [] out.old) }
     ensures out_after { out.new ≡ left (token_from destination source) [] out.old }
 {
-    c_frames::written(write::write_token(Address(destination), Address(source), out))
+    let w = write::write_token(Address(destination), Address(source), out);
+    c_frames::written(w.map_err(Refusal::number))
 }
 
 // Writes a short acknowledgement.
+#[tactic(auto, unfolding(frame::specs::Format::wrote, c_frames::specs::Flat::counted))]
 #[unsafe(no_mangle)]
 pub extern "C" fn cihlomet_short(out: &mut [u8]) -> FlatWritten
     ensures value { result ≡ flat_written (written Fields.Short [] out.old) }
     ensures out_after { out.new ≡ left Fields.Short [] out.old }
 {
-    c_frames::written(write::write_short(out))
+    c_frames::written(write::write_short(out).map_err(Refusal::number))
 }
 
 // Lists a capture. The least output is 139274 octets: to a shorter one the answer is 0.
