@@ -7,7 +7,8 @@ use mathlib.Core.List.{List, [], ◌∷◌, ◌++◌, append_assoc}
 use native.Mathlib.Omega.{arith}
 use lib.ListN.{length, get_or, set, drop, replicate, get_or-eq_default, length-append, length-replicate}
 use lib.Seq.{take-append-add, drop-append-add, get_or-append-add}
-use Rattle.std.proofs.Common.{Ok, Err}
+use Rattle.std.proofs.Common.{Result, Ok, Err}
+use Rattle.std.specs.Prelude.{IfOk}
 use Rattle.choice.specs.Choice.{pick, less}
 use Rattle.choice.proofs.Rules.{pick_true, pick-false, same_true, same_false}
 use Rattle.refusal.specs.declared.Refusal.{Refusal}
@@ -22,7 +23,6 @@ use Rattle.queue.specs.declared.Taken.{Taken as Takes}
 use Rattle.queue.specs.Queue.{AREA, Ruled, Taken, accepted, refuse, taken, taken_of}
 use Rattle.rows.specs.Rows as Rows
 use Rattle.rows.specs.Rows.{Lent, left, stored}
-use Rattle.rows.proofs.Submitted as Submitted
 use Rattle.rows.proofs.Submitted.{room_of}
 use Rattle.records.specs.Records.{blank, row_of, placed, filled}
 
@@ -126,6 +126,12 @@ pub within-row : (ts : ℕ) (q : Queue) (r : Record) (t : Takes) (x : List ℕ) 
 within-row ts q r t x row area u l d =
     omega (arith, (room_of ts q r t x (row_of row) area u l d).record-fits, length-row row)
 
+pub taken-within : (ts : ℕ) (q : Queue) (r : Record) (d : Result Takes Refusal) (x : List ℕ) (row : List Record)
+    (area : List ℕ) → Ruled q → Lent q (row_of row) area → taken_of q r d ≡ taken ts q r (length x)
+    → IfOk d (λ t. t.place < length row)
+taken-within ts q r (Ok t) x row area u l d = within-row ts q r t x row area u l d
+taken-within ts q r (Err e) x row area u l d = tt
+
 -- ---- what submit's decision leaves
 stored-by : (b : Bool) (t : Taken) (row row' area area' : List ℕ)
     → left t (pick b row row') (pick b area area') ≡ pick b (left t row area) (left t row' area')
@@ -142,9 +148,14 @@ pub filled-err : (q : Queue) (r : Record) (e : Refusal) (x area : List ℕ) → 
 unfolding filled taken_of refuse
 filled-err q r e x area = pick-false _ _ (same_false (λ z. omega (arith, above_zero e)))
 
-pub stored-err : (q : Queue) (r : Record) (e : Refusal) (x row area : List ℕ)
-    → left (taken_of q r (Err e)) row (filled (taken_of q r (Err e)) x area) ≡ stored (taken_of q r (Err e)) x row area
-stored-err q r e x row area = rw (filled-err q r e x area) (Submitted.stored-err q r e x row area)
+pub placed-err : (q : Queue) (r : Record) (e : Refusal) (row : List ℕ) → placed (taken_of q r (Err e)) row ≡ row
+unfolding placed taken_of refuse
+placed-err q r e row = pick-false _ _ (same_false (λ z. omega (arith, above_zero e)))
+
+pub placed-ok : (q : Queue) (r : Record) (t : Takes) (row : List ℕ)
+    → placed (taken_of q r (Ok t)) row ≡ Rows.put row t.place t.entry
+unfolding placed taken_of accepted
+placed-ok q r t row = pick_true _ _ (same_true refl)
 
 pub filled-ok : (q : Queue) (r : Record) (t : Takes) (x area : List ℕ)
     → filled (taken_of q r (Ok t)) x area ≡ Rows.fill area t.place x

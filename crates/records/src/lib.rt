@@ -3,9 +3,9 @@
 // Kept: the calls of `rows` again, over structs, since document 01 names both forms.
 #![tactic(auto, using(crate::proofs::Laws::read_there, crate::proofs::Laws::put_there, crate::proofs::Laws::row_steps), unfolding(choice::specs::Choice::pick, choice::specs::Choice::same, queue::specs::Queue::accepted, rows::specs::Rows::confirm, rows::specs::Rows::handed, crate::specs::Records::placed))]
 
-ghost use Rattle.std.specs.Prelude.{◌≡◌, ◌+◌, ◌*◌, ◌<◌, ◌≤◌, length};
+ghost use Rattle.std.specs.Prelude.{◌≡◌, ◌+◌, ◌*◌, ◌<◌, ◌≤◌, length, IfOk};
 ghost use Rattle.request.specs.Record.{SIZE};
-ghost use Rattle.queue.specs.Queue.{AREA, Ruled, taken, taken_of, accepted, closed, collected_of};
+ghost use Rattle.queue.specs.Queue.{AREA, Ruled, taken, taken_of, closed, collected_of};
 ghost use Rattle.rows.specs.Rows.{Lent, left, submitted, handed, at as rows_at};
 ghost use Rattle.rows.specs.Rows.{fill as rows_fill, confirm as rows_confirm};
 ghost use Rattle.records.specs.Records.{row_of, placed, filled};
@@ -47,12 +47,17 @@ pub fn take(ts: Address, q: Queue, r: Record, x: &[u8], area: &mut [u8]) -> Resu
     Ok(t)
 }
 
-// Puts the record of a request taken at its place of the row.
-pub fn store(t: Taken, row: &mut [Record])
-    requires { t.place < length row.old }
-    ensures { row_of row.new ≡ placed (accepted t) (row_of row.old) }
+// Puts the record of a request taken at its place of the row, and hands on what was decided. The clause is of every
+// queue and record, since a refusal does not say of which it was decided.
+pub fn store(t: Result<Taken, Refusal>, row: &mut [Record]) -> Result<Taken, Refusal>
+    requires { IfOk t (λ t. t.place < length row.old) }
+    ensures { (result ≡ t)
+        × ((q : Queue) (r : Record) → row_of row.new ≡ placed (taken_of q r t) (row_of row.old)) }
 {
-    row[usize::from(t.place)] = t.entry;
+    if let Ok(t) = t {
+        row[usize::from(t.place)] = t.entry;
+    }
+    t
 }
 
 // Submits a request with its data.
@@ -68,9 +73,7 @@ pub fn submit(
     ensures { left (taken_of q r result) (row_of row.new) area.new ≡ submitted ts.0 q r x.now
         (row_of row.old) area.old }
 {
-    let t = take(ts, q, r, x, area)?;
-    store(t, row);
-    Ok(t)
+    store(take(ts, q, r, x, area), row)
 }
 
 // The record of a confirmed request; the reply's data go to its place of the data area.
