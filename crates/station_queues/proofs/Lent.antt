@@ -5,7 +5,7 @@ use mathlib.Core.Bool.{Bool, true, false}
 use mathlib.Core.Path.{◌≡◌, refl, sym, ap, ◌∙◌}
 use mathlib.Core.List.{List, [], ◌∷◌}
 use Rattle.choice.specs.Choice.{pick, said, same}
-use Rattle.std.specs.Prelude.{Result, Ok, Err, length}
+use Rattle.std.specs.Prelude.{Result, Err, length}
 use Rattle.choice.proofs.Rules.{pick_true, pick-false, same_true, same_false, true_same, false_same, passed}
 use Rattle.choice.proofs.Rules.{is_said, if-same, unless-same}
 use Rattle.refusal.specs.declared.Refusal.{Refusal}
@@ -20,7 +20,6 @@ use Rattle.queue.specs.Queue.{Refused, Handed}
 use Rattle.queue.specs.declared.Taken.{Taken as Takes}
 use Rattle.queue.specs.declared.Handed.{Handed as Hands}
 use Rattle.queue.specs.Queue.{Ruled, refuse, take, misfit, taken_of, collected_of}
-use Rattle.queue.specs.Queue.{accepted as queue_accepted}
 use Rattle.rows.specs.Rows.{Lent, Left, left, submitted, handed}
 use Rattle.rows.proofs.Submitted.{Outcome, outcome}
 use Rattle.rows.proofs.Submitted.Outcome.{as_it_was, with_it}
@@ -72,7 +71,15 @@ module _ (s : State) (n : Record) (x : List ℕ) (r : Rows) where
       (λ (k : ℕ). left (refuse k s.core.low n) r.row r.area) _ _ _
       (refusing Low 21 _ n _ _ _ (same_false (omega arith))) (refusing Low 29 _ n _ _ _ (same_false (omega arith)))
 
--- a refused one leaves the state and the row
+-- a refused one is answered by its number, and the state as it was
+pub refused-for : (p : Priority) (s : State) (q : Queue) (n : Record) (k : Refusal)
+    → accepted_by s (Err k) ≡ accepted_for p (taken_of q n (Err k)) s
+unfolding accepted_by accepted_for taken_of refuse
+refused-for p s q n k =
+    let pos = above_zero k in
+    unless-same _ (λ w. omega arith) refl
+
+-- and leaves the state and the row
 left-refused : (p : Priority) (k : ℕ) (s : State) (r : Rows)
     → submitted_of p (called (done (lent p s r).site (refused k ∷ [])) (lent p s r))
     ≡ left (record { refused = k; state = s; place = 0 }) r.row r.area
@@ -205,23 +212,10 @@ module _ (s : State) (p : Priority) (n : Record) (x row area : List ℕ) {q : Qu
   unfolding taking
   decided_as z g = rw (← found s p row area b e) (if-same _ z (rw b at g))
 
-  pub submit-undone : m ≡ 0 → (k : Refusal) {a : Result GivenAccepted Refusal} {row' area' : List ℕ} → a ≡ Err k
-      → left (said_of (Err k)) row' area'
-      ≡ submitted s.core.ts.0 q (limited s.core.settings.retries.0 n) x row area
+  pub submit-done : m ≡ 0 → (t : Result Takes Refusal) (a : Result GivenAccepted Refusal) {row' area' : List ℕ}
+      → accepted_by s a ≡ accepted_for p (said_of t) s
+      → left (said_of t) row' area' ≡ submitted s.core.ts.0 q (limited s.core.settings.retries.0 n) x row area
       → left (accepted_by s a) row' area' ≡ submitted_of p (Calls.submit p n x (lent p s (rows row area)))
-  unfolding accepted_by accepted_for taken_of refuse
-  submit-undone z k {row' = row'} {area' = area'} h g =
-      let pos = above_zero k in
-      rw h
-      (ap (λ (a : Accepted). left a row' area') (unless-same _ (λ w. omega arith) refl)
-      ∙ submit-by-decision s p n x row area (decided_as z g))
-
-  pub submit-done : m ≡ 0 → (t : Takes) (a : GivenAccepted) {row' area' : List ℕ}
-      → accepted_by s (Ok a) ≡ accepted_for p (queue_accepted t) s
-      → left (said_of (Ok t)) row' area'
-      ≡ submitted s.core.ts.0 q (limited s.core.settings.retries.0 n) x row area
-      → left (accepted_by s (Ok a)) row' area' ≡ submitted_of p (Calls.submit p n x (lent p s (rows row area)))
-  unfolding taken_of
   submit-done z t a h g = rw h (submit-by-decision s p n x row area (decided_as z g))
 
 -- ---- collect
@@ -250,33 +244,29 @@ handed-by High (Handed k n q) s r = refl
 handed-by Low (Refused k) s r = refl
 handed-by Low (Handed k n q) s r = refl
 
+-- the call, by what was decided
+module _ (s : State) (p : Priority) (row area : List ℕ) {c : Collected}
+    (e : c ≡ handing p s.core s.masters.0 s.started.0 s.memory.kept (rows row area)) where
+  pub collect-hand : hand_of p c s ≡ handed_back_of (Calls.collect p (lent p s (rows row area)))
+  collect-hand = rw e (handed-by p _ s (rows row area) ∙ ap handed_back_of (collect-by s (rows row area) p))
+
 -- the call, by what the code finds
 module _ (s : State) (p : Priority) (row area : List ℕ) {q : Queue} {m : ℕ} (b : q ≡ queue_of p s.core)
     (e : m ≡ refusal_of (misfit q SIZE (length row) (length area)) s.core s.masters.0 s.started.0 s.memory.kept) where
-  collect-hand : {c : Collected} → c ≡ handing p s.core s.masters.0 s.started.0 s.memory.kept (rows row area)
-      → hand_of p c s ≡ handed_back_of (Calls.collect p (lent p s (rows row area)))
-  collect-hand h = rw h (handed-by p _ s (rows row area) ∙ ap handed_back_of (collect-by s (rows row area) p))
-
   pub collect-declined : (k : Refusal) {a : Result GivenHandedBack Refusal} → a ≡ Err k → m ≡ number k
       → handed_back_by s a ≡ handed_back_of (Calls.collect p (lent p s (rows row area)))
   unfolding handed_back_by hand_of handing
   collect-declined k h z =
       let pos = above_zero k in
       let f = rw z at (found s p row area b e) in
-      rw h (collect-hand {c = Refused (number k)} (rw (← f) (unless-same _ (λ w. omega arith) refl)))
+      rw h (collect-hand s p row area {c = Refused (number k)} (rw (← f) (unless-same _ (λ w. omega arith) refl)))
 
   found_as : m ≡ 0 → {c : Collected} → c ≡ handed q row
       → c ≡ handing p s.core s.masters.0 s.started.0 s.memory.kept (rows row area)
   unfolding handing
   found_as z g = rw (← found s p row area b e) (if-same _ z (rw b at g))
 
-  pub collect-undone : m ≡ 0 → (k : Refusal) {a : Result GivenHandedBack Refusal} → a ≡ Err k
-      → collected_of (Err k) ≡ handed q row
+  pub collect-done : m ≡ 0 → (t : Result Hands Refusal) (a : Result GivenHandedBack Refusal)
+      → handed_back_by s a ≡ hand_of p (collected_of t) s → collected_of t ≡ handed q row
       → handed_back_by s a ≡ handed_back_of (Calls.collect p (lent p s (rows row area)))
-  unfolding handed_back_by hand_of collected_of
-  collect-undone z k h g = rw h (collect-hand (found_as z g))
-
-  pub collect-done : m ≡ 0 → (t : Hands) (a : GivenHandedBack) → handed_back_by s (Ok a) ≡ hand_of p (collected_of (Ok t)) s
-      → collected_of (Ok t) ≡ handed q row
-      → handed_back_by s (Ok a) ≡ handed_back_of (Calls.collect p (lent p s (rows row area)))
-  collect-done z t a h g = rw h (collect-hand (found_as z g))
+  collect-done z t a h g = rw h (collect-hand s p row area (found_as z g))

@@ -1,10 +1,10 @@
 // The station's calls submit and collect: each takes any state, any row and any octets, and answers. Assumes nothing.
 #![tactic(auto)]
 
-ghost use Rattle.std.specs.Prelude.{◌≡◌, ◌≤◌, length, Ok};
+ghost use Rattle.std.specs.Prelude.{◌≡◌, ◌≤◌, length};
 ghost use Rattle.refusal.specs.Refusal.{refused};
 ghost use Rattle.request.specs.Record.{SIZE, limited as record_limited};
-ghost use Rattle.queue.specs.Queue.{accepted, collected_of, misfit};
+ghost use Rattle.queue.specs.Queue.{taken_of, collected_of, misfit};
 ghost use Rattle.rows.specs.Rows.{left};
 ghost use Rattle.state.specs.World.{rows};
 ghost use Rattle.state.specs.Calls.{submit as calls_submit, collect as calls_collect};
@@ -49,18 +49,20 @@ pub fn limited(c: Core, r: Record) -> Record
     request::limited(c.settings.retries.0 as u8, r)
 }
 
-// What submit answers, by what it decided.
-#[tactic(auto, unfolding(choice::specs::Choice::pick, choice::specs::Choice::same, queue::specs::Queue::accepted, state::specs::Told::accepted_by, state::specs::World::state_with, crate::specs::Decided::accepted_for))]
-pub fn accepting(s: State, p: Priority, t: Taken) -> Accepted
-    ensures { accepted_by s (Ok result) ≡ accepted_for p (accepted t) s }
+// What submit answers, by what it decided. The clause is of every queue and record, since a refusal does not say of
+// which it was decided.
+#[tactic(auto, unfolding(choice::specs::Choice::pick, choice::specs::Choice::same, queue::specs::Queue::accepted, queue::specs::Queue::refuse, queue::specs::Queue::taken_of, state::specs::Told::accepted_by, state::specs::World::state_with, crate::specs::Decided::accepted_for))]
+pub fn accepting(s: State, p: Priority, t: Result<Taken, Refusal>) -> Result<Accepted, Refusal>
+    ensures { (q : Queue) (r : Record) → accepted_by s result ≡ accepted_for p (taken_of q r t) s }
 {
-    Accepted {
+    let t = t?;
+    Ok(Accepted {
         state: State {
             core: acts::with_queue(p, t.queue, s.core),
             ..s
         },
         place: t.place,
-    }
+    })
 }
 
 // The same for a row of octets and a data area, in a state.
@@ -96,31 +98,32 @@ pub fn submit(
 {
     let q = acts::queue_of(p, s.core);
     refused_in(&s, q, row, area)?;
-    let t = rows::submit(s.core.ts, q, limited(s.core, r), x, row, area)?;
-    Ok(accepting(s, p, t))
+    let t = rows::submit(s.core.ts, q, limited(s.core, r), x, row, area);
+    accepting(s, p, t)
 }
 
 // What collect answers, by what it decided.
 #[tactic(auto, unfolding(queue::specs::Queue::collected_of, state::specs::Told::hand_of, state::specs::Told::handed_back_by, state::specs::World::state_with))]
-pub fn returning(s: State, p: Priority, h: Handed) -> HandedBack
-    ensures { handed_back_by s (Ok result) ≡ hand_of p (collected_of (Ok h)) s }
+pub fn returning(s: State, p: Priority, c: Result<Handed, Refusal>) -> Result<HandedBack, Refusal>
+    ensures { handed_back_by s result ≡ hand_of p (collected_of c) s }
 {
-    HandedBack {
+    let h = c?;
+    Ok(HandedBack {
         state: State {
             core: acts::with_queue(p, h.queue, s.core),
             ..s
         },
         place: h.place,
         entry: h.entry,
-    }
+    })
 }
 
 // Hands back the oldest confirmed record of a queue, whose row and data area are lent, and frees its place.
 pub fn collect(s: State, p: Priority, row: &[u8], area: &[u8]) -> Result<HandedBack, Refusal>
     ensures { handed_back_by s result ≡ handed_back_of (calls_collect p (lent p s (rows row.now area.now))) }
 {
-    let q = acts::queue_of(p, s.core);
-    refused_in(&s, q, row, area)?;
-    let h = rows::collect(q, row)?;
-    Ok(returning(s, p, h))
+    let asked = acts::queue_of(p, s.core);
+    refused_in(&s, asked, row, area)?;
+    let c = rows::collect(asked, row);
+    returning(s, p, c)
 }

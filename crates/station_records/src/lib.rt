@@ -5,7 +5,6 @@
 
 ghost use Rattle.std.specs.Prelude.{◌≡◌, length};
 ghost use Rattle.refusal.specs.Refusal.{refused};
-ghost use Rattle.request.specs.Record.{SIZE};
 ghost use Rattle.queue.specs.Queue.{misfit};
 ghost use Rattle.rows.specs.Rows.{left};
 ghost use Rattle.records.specs.Records.{row_of};
@@ -22,8 +21,8 @@ use state::{Accepted, HandedBack, Priority, State};
 // The refusal of submit and collect, if there is one, for a row of records and a data area.
 fn refusal(s: &State, q: Queue, row: &[Record], area: &[u8]) -> Result<(), Refusal>
     ensures { refused result
-        ≡ refusal_of (misfit q SIZE (length (row_of row.now)) (length area.now)) s.now.core s.now.masters.0
-        s.now.started.0 s.now.memory.kept }
+        ≡ refusal_of (misfit q 1 (length row.now) (length area.now)) s.now.core s.now.masters.0 s.now.started.0
+        s.now.memory.kept }
 {
     station_queues::refusal(
         q,
@@ -53,8 +52,8 @@ pub fn submit(
     let q = acts::queue_of(p, s.core);
     refusal(&s, q, row, area)?;
     let own = station_queues::limited(s.core, r);
-    let t = records::submit(s.core.ts, q, own, x, row, area)?;
-    Ok(station_queues::accepting(s, p, t))
+    let t = records::submit(s.core.ts, q, own, x, row, area);
+    station_queues::accepting(s, p, t)
 }
 
 // Hands back the oldest confirmed record of a queue, whose row and data area are lent, and frees its place.
@@ -62,8 +61,8 @@ pub fn collect(s: State, p: Priority, row: &[Record], area: &[u8]) -> Result<Han
     ensures { handed_back_by s result
         ≡ handed_back_of (calls_collect p (lent p s (rows (row_of row.now) area.now))) }
 {
-    let q = acts::queue_of(p, s.core);
-    refusal(&s, q, row, area)?;
-    let h = records::collect(q, row)?;
-    Ok(station_queues::returning(s, p, h))
+    let asked = acts::queue_of(p, s.core);
+    refusal(&s, asked, row, area)?;
+    let c = records::collect(asked, row);
+    station_queues::returning(s, p, c)
 }
