@@ -30,15 +30,27 @@ pub fn unknown(text: &mut [u8]) -> usize
     laid::lay(b"?\n", text, 0)
 }
 
+// Lays the line of start, submit and reset by number, 0 where the call was not refused.
+#[tactic(auto, using(printed::proofs::phrases::Steps::laying), unfolding(choice::specs::Choice::pick, choice::specs::Choice::same, crate::specs::Saying::plain_line))]
+pub fn numbered(refused: u8, text: &mut [u8]) -> usize
+    requires { 8192 ≤ length text.old }
+    ensures { Lays text.old 0 (plain_line refused) 8192 result text.new }
+{
+    match refused {
+        0 => laid::lay(b"ok\n", text, 0),
+        n => phrases::refused(n, text, 0),
+    }
+}
+
 // Lays the line of what start, submit or reset answered: whether it was refused.
-#[tactic(auto, using(printed::proofs::phrases::Steps::laying), unfolding(choice::specs::Choice::pick, choice::specs::Choice::same, refusal::specs::Refusal::refused, crate::specs::Saying::plain_line))]
+#[tactic(auto, unfolding(refusal::specs::Refusal::refused))]
 pub fn outcome<A: Drop>(a: Result<A, Refusal>, text: &mut [u8]) -> usize
     requires { 8192 ≤ length text.old }
     ensures { Lays text.old 0 (plain_line (refused a)) 8192 result text.new }
 {
     match a {
-        Ok(_) => laid::lay(b"ok\n", text, 0),
-        Err(r) => phrases::refused(r.number(), text, 0),
+        Ok(_) => numbered(0, text),
+        Err(r) => numbered(r.number(), text),
     }
 }
 
