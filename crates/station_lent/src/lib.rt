@@ -13,6 +13,7 @@ use refusal::Refusal;
 use state::{Core, Heard, Kept, Rows};
 
 // A frame, with what the caller gives to an answer.
+#[tactic(auto, using(crate::proofs::Steps::frame_steps), unfolding(refusal::specs::Refusal::refused))]
 pub fn frame(
     clock: BitTime,
     caller: Caller,
