@@ -71,11 +71,14 @@ fn refused_in(s: &State, q: Queue, row: &[u8], area: &[u8]) -> Result<(), Refusa
         ≡ refusal_of (misfit q SIZE (length row.now) (length area.now)) s.now.core s.now.masters.0
         s.now.started.0 s.now.memory.kept }
 {
+    // Copies: of them the compiler sees that they are what C lent, and leaves out the copy of the whole state.
+    let masters = s.masters.0;
+    let started = s.started.0;
     refusal(
         q,
         s.core,
-        &s.masters.0,
-        &s.started.0,
+        &masters,
+        &started,
         s.memory.kept,
         request::SIZE,
         row.len(),
