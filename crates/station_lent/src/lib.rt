@@ -4,13 +4,15 @@
 
 ghost use Rattle.std.specs.Prelude.{◌≡◌, length};
 ghost use Rattle.state.specs.Calls.{frame as calls_frame, sent as calls_sent, slot as calls_slot};
-ghost use Rattle.state.specs.Told.{heard_by, stands, standing, world_in, high_in, low_in, SameRows};
+ghost use Rattle.refusal.specs.Refusal.{refused};
+ghost use Rattle.state.specs.Refusals.{refusal_in};
+ghost use Rattle.state.specs.Told.{heard_by, stands, standing, world_in, high_in, low_in, high_of, low_of, SameRows};
 ghost use Rattle.station_lent.specs.Acts.{Acts};
 
 use answering::Caller;
 use clock::BitTime;
 use refusal::Refusal;
-use state::{Core, Heard, Kept, Rows};
+use state::{Core, Heard, Kept, Rows, SharedRows};
 
 // A frame, with what the caller gives to an answer.
 #[tactic(auto, using(crate::proofs::Steps::frame_steps), unfolding(refusal::specs::Refusal::refused))]
@@ -51,6 +53,21 @@ pub fn frame(
     ))
 }
 
+// The refusal of sent and slot, which are given no updates.
+fn refusal(
+    out: usize,
+    c: Core,
+    masters: &[u8; 127],
+    started: &[u8; 127],
+    k: Kept,
+    rows: SharedRows,
+) -> Result<(), Refusal>
+    ensures { refused result
+        ≡ refusal_in out 0 0 c masters.now started.now k (high_of rows.entry) (low_of rows.entry) }
+{
+    refusals::refusal(out, 0, 0, c, masters, started, k, rows)
+}
+
 // What was to be sent went out.
 pub fn sent(
     clock: BitTime,
@@ -67,7 +84,7 @@ pub fn sent(
         (high_in rows.new) (low_in rows.new) out.new }
     ensures same { SameRows rows.old rows.new }
 {
-    refusals::refusal(out.len(), 0, 0, c, masters, started, k, rows.shared())?;
+    refusal(out.len(), c, masters, started, k, rows.shared())?;
     let m = phases::sent_in(clock, c, masters, marks, rows, out);
     Ok(hearing::idle::moved(m, k))
 }
@@ -88,7 +105,7 @@ pub fn slot(
         (high_in rows.new) (low_in rows.new) out.new }
     ensures same { SameRows rows.old rows.new }
 {
-    refusals::refusal(out.len(), 0, 0, c, masters, started, k, rows.shared())?;
+    refusal(out.len(), c, masters, started, k, rows.shared())?;
     let m = phases::slot_in(clock, c, masters, marks, rows, out);
     Ok(hearing::idle::moved(m, k))
 }
